@@ -1,35 +1,23 @@
 -- How the steps of `chain` go on and end, read after read.
-use Rattle.std.proofs.Common.{◌≡◌, ℕ, suc, ◌+◌, Bool, true, false, if◌then◌else◌, List, [], ◌∷◌, ◌++◌, drop, length, map, Bor, append_assoc, append-nil, arith, Option, Some, None, Result, Ok, Err, refl, sym, ap, subst, ◌∙◌}
+use Rattle.cmd_check.proofs.Words.{◌≡◌, ℕ, ◌+◌, List, [], length, map, arith, Option, Some, Ok, refl, sym, subst, ◌∙◌, constants_of, Evidence, IsAccepted}
+use Rattle.cmd_check.proofs.Words.{Public, Trace, IsRefusal, Refused, evidence_text, Stated, stated_of, ShelfState, Outcome, IsRight, Continues, EndsIn}
+use Rattle.cmd_check.proofs.Words.{EndsThere, Loads, SaysStatus, refused_line, stop, checked, accepted, refused, Steps, asking, ending, goes_past_finding}
+use Rattle.cmd_check.proofs.Words.{same_again, says_comes, work_ends, EndsHere, GoesOn, LinkGoesOn, TextGrew}
+use Rattle.std.proofs.Common.{suc, Bool, true, false, if◌then◌else◌, ◌∷◌, ◌++◌, drop, Bor, append_assoc, append-nil, None, Result, Err, ap}
 use Rattle.std.proofs.lemmas.List.{drop_all, length_push}
 use Rattle.std.specs.Option.{option_copied, option_map}
 use Rattle.std.specs.Result.{IfErr, IfOk}
 use Rattle.vm_field.specs.declared.lists.Felts.{Felts}
-use Rattle.rpo_hash.specs.Constants.{constants_of}
-use Rattle.block_tree.specs.declared.evidence.Evidence.{Evidence}
-use Rattle.air_kit.specs.Acceptance.{IsAccepted}
-use Rattle.air_kit.specs.declared.trace.Public.{Public}
-use Rattle.air_kit.specs.declared.trace.Trace.{Trace}
-use Rattle.checker.specs.Refusals.{IsRefusal}
-use Rattle.checker.specs.declared.refusal.Refused.{Refused}
 use Rattle.checker.specs.declared.refusal.Refused.TheVariants as why
 use Rattle.run_chain.specs.Lists.{Links, links_of}
-use Rattle.statement.specs.EvidenceText.{evidence_text}
-use Rattle.statement.specs.Statements.{Stated, stated_of}
-use Rattle.vm_io.specs.Shelf.{ShelfState}
-use Rattle.cmd_kit.specs.declared.outcome.Outcome.{Outcome}
 use Rattle.cmd_kit.specs.declared.outcome.Outcome.TheVariants as outcome
 use Rattle.cmd_kit.specs.declared.status.Status.TheVariants as status
 use Rattle.cmd_kit.specs.ChainEnds.{AreEvidence, IsChainText, accepted_links_line, chain_text}
 use Rattle.cmd_kit.specs.ChainSteps.{ChainLink, chain_from, chain_given, chain_link, chain_steps, claimed_steps, follows_on, judged_steps, link_steps}
 use Rattle.cmd_kit.specs.CheckEnds.{IsEvidenceFor, IsVerdictFor, IsVerdictOf, IsWhy}
-use Rattle.cmd_kit.specs.Commands.{IsRight}
 use Rattle.cmd_kit.specs.Links.{broken, broken_line, line_of_link, link_line, list_steps, most_list_bytes, with_lines}
-use Rattle.cmd_kit.specs.Outcomes.{Continues, EndsIn, EndsThere, Loads, SaysStatus}
-use Rattle.cmd_kit.specs.RefusalLines.{refused_line}
 use Rattle.cmd_kit.specs.Starts.{params_steps, statement_steps, trace_steps}
-use Rattle.cmd_kit.specs.Steps.{stop, chain_evidence, checked, Judged, Right, Verdict, accepted, refused, Steps, reading, writing, asking, ending}
-use Rattle.cmd_kit.proofs.ServingLemmas.{goes_past_finding, same_again, says_comes, work_ends}
-use Rattle.cmd_check.specs.Judging.{EndsHere, GoesOn, LinkGoesOn, TextGrew}
+use Rattle.cmd_kit.specs.Steps.{chain_evidence, Judged, Right, Verdict, reading, writing}
 
 -- one link
 module _ (constants : List ℕ) (before : ℕ) (left : Option (List ℕ)) (link : ChainLink) where

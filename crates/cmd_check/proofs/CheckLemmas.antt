@@ -1,27 +1,13 @@
 -- What `check` finds of a trace decides how its steps go on.
-use Rattle.std.proofs.Common.{◌≡◌, ℕ, List, Some, refl, subst, sym}
-use Rattle.rpo_hash.specs.Constants.{constants_of}
-use Rattle.block_tree.specs.declared.evidence.Evidence.{Evidence}
-use Rattle.statement.specs.Statements.{stated_of}
-use Rattle.statement.specs.EvidenceText.{evidence_text}
-use Rattle.air_kit.specs.Acceptance.{IsAccepted}
-use Rattle.air_kit.specs.declared.trace.Public.{Public}
-use Rattle.air_kit.specs.declared.trace.Trace.{Trace}
-use Rattle.checker.specs.Refusals.{IsRefusal}
-use Rattle.checker.specs.declared.refusal.Refused.{Refused}
+use Rattle.cmd_check.proofs.Words.{◌≡◌, ℕ, List, Some, refl, subst, sym, constants_of, Evidence, stated_of, evidence_text, IsAccepted, Public, Trace}
+use Rattle.cmd_check.proofs.Words.{IsRefusal, Refused, refused_line, ShelfState, Outcome, IsRight, EndsIn, SaysStatus, Steps, accepted, refused, checked}
+use Rattle.cmd_check.proofs.Words.{ending, evidence_for, telling, goes_past_finding, same_again, says_comes, says_ends, work_ends}
 use Rattle.checker.specs.declared.refusal.Refused.TheVariants as why
 use Rattle.tree_merge.specs.Evidences.{IsEvidence}
-use Rattle.cmd_kit.specs.RefusalLines.{refused_line}
-use Rattle.vm_io.specs.Shelf.{ShelfState}
-use Rattle.cmd_kit.specs.declared.outcome.Outcome.{Outcome}
 use Rattle.cmd_kit.specs.declared.outcome.Outcome.TheVariants as outcome
 use Rattle.cmd_kit.specs.declared.status.Status.TheVariants as status
 use Rattle.cmd_kit.specs.CheckEnds.{IsEvidenceFor, IsWhy, accepted_line, refusal}
-use Rattle.cmd_kit.specs.Commands.{IsRight}
 use Rattle.cmd_kit.specs.CheckSteps.{found_steps, judging_steps}
-use Rattle.cmd_kit.specs.Outcomes.{EndsIn, SaysStatus}
-use Rattle.cmd_kit.specs.Steps.{Steps, accepted, refused, checked, ending, evidence_for, telling}
-use Rattle.cmd_kit.proofs.ServingLemmas.{goes_past_finding, same_again, says_comes, says_ends, work_ends}
 
 -- what is shown against a statement and constants is shown of what they say
 evidence_for_public : (p : Public) (t : Trace) (e : Evidence) → IsEvidence p t e → IsEvidenceFor (constants_of p.params) (stated_of p.statement) t e

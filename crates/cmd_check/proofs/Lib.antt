@@ -4,3 +4,4 @@ pub mod SourceSize
 pub mod SourcingLemmas
 pub mod SourcingReads
 pub mod WalkLemmas
+pub mod Words

@@ -1,26 +1,22 @@
 -- How many blocks the tree of an assembled program has.
-use Rattle.std.proofs.Common.{◌≡◌, ◌≢◌, ℕ, ◌+◌, ◌*◌, ◌^◌, ◌<◌, ◌≤◌, max, sum, List, [], ◌∷◌, ◌++◌, length, Option, Ok, refl, sym, subst, arith}
+use Rattle.cmd_check.proofs.Words.{◌≡◌, ℕ, ◌+◌, List, [], length, Option, Ok, refl, sym, subst, arith, constants_of, tree_of, Program, Public, Trace}
+use Rattle.cmd_check.proofs.Words.{HasFewBlocks}
+use Rattle.std.proofs.Common.{◌≢◌, ◌*◌, ◌^◌, ◌<◌, ◌≤◌, max, sum, ◌∷◌, ◌++◌}
 use Rattle.std.proofs.Math.Nat.{add-mul, le-max_left, le-max_right, mul-add, mul-le-mul, mul-le-mul_left, mul-one}
 use Rattle.std.proofs.lemmas.List.{length-append}
 use Rattle.std.proofs.lemmas.List.Sums.{sum_by-cons}
 use Rattle.vm_field.specs.Sponge.{HashInput}
-use Rattle.rpo_hash.specs.Constants.{constants_of}
 use Rattle.vm_ops.specs.declared.item.Item.{Item}
 use Rattle.op_pack.specs.Packing.{packed}
 use Rattle.block_tree.specs.Trees.{AreWhole, IsWhole, Targets, Tree, targets_from, targets_height, tree_height}
-use Rattle.block_tree.specs.TreeView.{tree_of}
-use Rattle.block_tree.specs.declared.program.Program.{Program}
 use Rattle.masm_flat.specs.Blocks.{Block, Blocks, Span, Join, Split, Loop, Call, Syscall, Dyn, no_block, block_before, seen_as, seen_all, as_tree, as_operations}
 use Rattle.masm_link.specs.Assembling.{Assembles}
 use Rattle.masm_link.specs.Libraries.{LibraryProcedure}
 use Rattle.masm_link.specs.Laws.{AssembledTrees, IsWithinLimits}
 use Rattle.air_kit.specs.Traces.{HasCounts}
-use Rattle.air_kit.specs.declared.trace.Public.{Public}
 use Rattle.air_kit.specs.declared.trace.TableName.TheVariants as table
-use Rattle.air_kit.specs.declared.trace.Trace.{Trace}
 use Rattle.source_check.specs.Numbering.{blocks_in}
 use Rattle.source_check.specs.SourceNodes.{inputs_in, inputs_of}
-use Rattle.cmd_check.specs.Sourcing.{HasFewBlocks}
 
 -- ---- products
 -- one block above others

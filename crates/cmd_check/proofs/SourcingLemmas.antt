@@ -1,38 +1,26 @@
 -- How the steps of `check --source` go on and end behind their reads. What follows a program is said for any tree.
-use Rattle.std.proofs.Common.{◌≡◌, ℕ, Bool, true, false, if◌then◌else◌, List, Option, Some, Ok, Err, refl, sym, subst}
+use Rattle.cmd_check.proofs.Words.{◌≡◌, ℕ, List, Option, Some, Ok, refl, sym, subst, constants_of, Program, Stated, stated_of, IsAccepted, Public, Trace}
+use Rattle.cmd_check.proofs.Words.{IsRefusal, Refused, ShelfState, Outcome, building_steps, built_steps, held_steps, sourced_steps, IsRight, EndsIn}
+use Rattle.cmd_check.proofs.Words.{SaysStatus, refused_line, SourceFile, stop, Steps, accepted, refused, checked, asking, ending, source_evidence_for}
+use Rattle.cmd_check.proofs.Words.{telling_source, goes_past_finding, same_again, says_comes, says_ends, work_ends, EndsApart, Unbuilt}
+use Rattle.std.proofs.Common.{Bool, true, false, if◌then◌else◌, Err}
 use Rattle.std.specs.Str.{bytes_eq}
 use Rattle.std.proofs.lemmas.Slice.Eq.{bytes_eq-Decides}
-use Rattle.rpo_hash.specs.Constants.{constants_of}
 use Rattle.block_tree.specs.Trees.{Tree, tree_digest}
-use Rattle.block_tree.specs.declared.program.Program.{Program}
 use Rattle.masm_link.specs.declared.refusal.AsmCause.{AsmCause}
 use Rattle.masm_link.specs.declared.refusal.AsmError.TheVariants.{Bad}
 use Rattle.source_check.specs.SourceEvidences.{IsSourceEvidence}
 use Rattle.source_check.specs.SourceText.{source_evidence_text}
 use Rattle.source_check.specs.declared.evidence.SourceEvidence.{SourceEvidence}
-use Rattle.statement.specs.Statements.{Stated, stated_of}
-use Rattle.air_kit.specs.Acceptance.{IsAccepted}
-use Rattle.air_kit.specs.declared.trace.Public.{Public}
-use Rattle.air_kit.specs.declared.trace.Trace.{Trace}
-use Rattle.checker.specs.Refusals.{IsRefusal}
-use Rattle.checker.specs.declared.refusal.Refused.{Refused}
 use Rattle.checker.specs.declared.refusal.Refused.TheVariants as why
-use Rattle.vm_io.specs.Shelf.{ShelfState}
 use Rattle.cmd_kit.specs.declared.answer.Answer.{Answer}
-use Rattle.cmd_kit.specs.declared.outcome.Outcome.{Outcome}
 use Rattle.cmd_kit.specs.declared.outcome.Outcome.TheVariants as outcome
 use Rattle.cmd_kit.specs.declared.status.Status.TheVariants as status
 use Rattle.cmd_kit.specs.CheckEnds.{IsWhy, refusal}
 use Rattle.cmd_kit.specs.CheckSourceEnds as ends
 use Rattle.cmd_kit.specs.CheckSourceEnds.{IsBuild, IsSourceEvidenceFor, accepted_source_line, other_program_line}
-use Rattle.cmd_kit.specs.CheckSourceSteps.{building_steps, built_steps, held_steps, sourced_steps}
-use Rattle.cmd_kit.specs.Commands.{IsRight}
-use Rattle.cmd_kit.specs.Outcomes.{EndsIn, SaysStatus}
-use Rattle.cmd_kit.specs.RefusalLines.{refused_line}
 use Rattle.cmd_kit.specs.SourceEnds.{AssemblesFiles, name_of_place, source_line}
-use Rattle.cmd_kit.specs.Steps.{SourceFile, stop, Steps, built, unbuilt, accepted, refused, checked, sourced, asking, ending, source_evidence_for, telling_source}
-use Rattle.cmd_kit.proofs.ServingLemmas.{goes_past_finding, same_again, says_comes, says_ends, work_ends}
-use Rattle.cmd_check.specs.Sourcing.{EndsApart, Unbuilt}
+use Rattle.cmd_kit.specs.Steps.{built, unbuilt, sourced}
 
 -- ---- sources
 -- a source that is refused

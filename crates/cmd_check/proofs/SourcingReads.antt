@@ -1,13 +1,7 @@
 -- The files of `check --source`, read one after another: where its steps end.
-use Rattle.std.proofs.Common.{ℕ, List, Option, Some}
-use Rattle.air_kit.specs.declared.trace.Trace.{Trace}
-use Rattle.statement.specs.Statements.{Stated}
-use Rattle.vm_io.specs.Shelf.{ShelfState}
-use Rattle.cmd_kit.specs.CheckSourceSteps.{building_steps, check_source_steps, with_source_steps}
-use Rattle.cmd_kit.specs.Outcomes.{EndsIn, EndsThere, Loads}
+use Rattle.cmd_check.proofs.Words.{ℕ, List, Option, Some, Trace, Stated, ShelfState, building_steps, check_source_steps, with_source_steps, EndsIn, EndsThere}
+use Rattle.cmd_check.proofs.Words.{Loads, SourceFile, Steps, Outcome}
 use Rattle.cmd_kit.specs.Starts.{params_steps, trace_steps, statement_steps, source_steps, kernel_steps}
-use Rattle.cmd_kit.specs.Steps.{SourceFile, Steps}
-use Rattle.cmd_kit.specs.declared.outcome.Outcome.{Outcome}
 
 module _ (params table statement evidence source : List ℕ) (name : Option (List ℕ)) where
   abbrev with_claim : List ℕ → Trace → Stated → Steps

@@ -1,18 +1,11 @@
 -- Where the steps of `member` end, behind the files that are read one after another.
-use Rattle.std.proofs.Common.{◌≡◌, ℕ, List, Some, subst}
+use Rattle.cmd_check.proofs.Words.{◌≡◌, ℕ, List, Some, subst, Trace, Stated, ShelfState, held_steps, EndsIn, Loads, Steps, checked, asking, Outcome}
+use Rattle.cmd_check.proofs.Words.{same_again}
 use Rattle.block_tree.specs.Trees.{Tree}
-use Rattle.air_kit.specs.declared.trace.Trace.{Trace}
 use Rattle.merkle_lib.specs.Programs.{walk_tree}
-use Rattle.statement.specs.Statements.{Stated}
-use Rattle.vm_io.specs.Shelf.{ShelfState}
-use Rattle.cmd_kit.specs.CheckSourceSteps.{held_steps}
 use Rattle.cmd_kit.specs.MemberSteps.{member_line, member_steps, walked_steps}
-use Rattle.cmd_kit.specs.Outcomes.{EndsIn, Loads}
 use Rattle.cmd_kit.specs.Starts.{params_steps, trace_steps, statement_steps}
-use Rattle.cmd_kit.specs.Steps.{Steps, checked, asking}
-use Rattle.cmd_kit.specs.declared.outcome.Outcome.{Outcome}
 use Rattle.cmd_kit.specs.declared.outcome.Outcome.TheVariants as outcome
-use Rattle.cmd_kit.proofs.ServingLemmas.{same_again}
 
 module _ (params table statement evidence : List ℕ) (depth : ℕ) where
   abbrev with_claim : List ℕ → Trace → Stated → Steps

@@ -1,10 +1,7 @@
 -- What holds at each place to which steps come over told files.
-use Rattle.std.proofs.Common.{◌≡◌, ℕ, ◌≤◌, List, length, Option, Some, ap, subst}
-use Rattle.std.specs.FinMap.{get, insert}
-use Rattle.vm_io.specs.Shelf.{Files, with_file}
-use Rattle.cmd_kit.specs.Commands.{Finds, IsRight}
-use Rattle.cmd_kit.specs.Serving.{Holds, Passes, none_yet, past_read, past_write, past_finding}
-use Rattle.cmd_kit.specs.Steps.{Finding, Steps, reading, writing, asking, ending}
+use Rattle.cmd_kit.proofs.Words.{◌≡◌, ℕ, ◌≤◌, List, length, Option, Some, ap, subst, get, insert, Files, with_file, Finds, IsRight, Passes, past_read}
+use Rattle.cmd_kit.proofs.Words.{past_write, past_finding, Finding, Steps, reading, writing, asking, ending}
+use Rattle.cmd_kit.specs.Serving.{Holds, none_yet}
 
 module _ (P : Steps → Files → Type 0) where
   -- here, and wherever the steps lead from here without a fault

@@ -1,12 +1,9 @@
 -- The words of `run` and of `make` give the outputs names that no other file of the command has.
-use Rattle.std.proofs.Common.{if◌then◌else◌, ◌≡◌, ◌≢◌, ℕ, Bool, true, false, not, ◌||◌, codes, List, [], ◌∷◌, Option, Some, None, refl, sym, subst}
-use Rattle.std.specs.List.{list_any}
-use Rattle.std.specs.Str.{bytes_eq}
-use Rattle.std.proofs.lemmas.Bool.{false≢true, and_parts}
-use Rattle.std.proofs.lemmas.Slice.Eq.{bytes_eq-Decides}
+use Rattle.cmd_kit.proofs.Words.{if◌then◌else◌, ◌≡◌, ◌≢◌, ℕ, Bool, true, false, not, ◌||◌, codes, List, [], ◌∷◌, Option, Some, None, refl, sym, subst}
+use Rattle.cmd_kit.proofs.Words.{list_any, bytes_eq, false≢true, and_parts, bytes_eq-Decides, most_turns, MadeNames, Outputs, hash, assemble, check}
+use Rattle.cmd_kit.proofs.Words.{check_source, make, chain, runs, member, asked}
 use Rattle.cmd_words.specs.Words.{is_form, name_at, number_at, optional_name}
-use Rattle.workloads.specs.Workloads.{most_turns}
-use Rattle.cmd_kit.specs.Asked.{Asked, MadeNames, Outputs, nothing, hash, assemble, run, check, check_source, make, chain, runs, member, asked, are_apart, are_made_apart, is_apart, given_name, check_against, check_words, hash_words, assemble_words, run_words, make_words, run_of_names, outputs_in, limit_in, pieces_in, check_of_names, hash_of_names, assemble_of_names, make_of_names, made_names_in, chain_of_names, chain_words, runs_of_names, runs_words, depth_in, member_of_names, member_words}
+use Rattle.cmd_kit.specs.Asked.{Asked, nothing, run, are_apart, are_made_apart, is_apart, given_name, check_against, check_words, hash_words, assemble_words, run_words, make_words, run_of_names, outputs_in, limit_in, pieces_in, check_of_names, hash_of_names, assemble_of_names, make_of_names, made_names_in, chain_of_names, chain_words, runs_of_names, runs_words, depth_in, member_of_names, member_words}
 
 -- what is asked has outputs apart
 abbrev AreOutputsApart : Asked → Type 0

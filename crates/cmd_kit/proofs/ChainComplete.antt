@@ -1,21 +1,12 @@
 -- A chain over good files, walked link by link to its end.
-use Rattle.std.proofs.Common.{◌≡◌, ℕ, Bool, true, if◌then◌else◌, List, [], ◌∷◌, ◌++◌, length, map, Option, Some, None, refl, ap, subst}
-use Rattle.std.specs.FinMap.{insert}
-use Rattle.std.proofs.lemmas.Slice.Eq.{bytes_eq-Decides}
-use Rattle.air_kit.specs.declared.trace.Trace.{Trace}
-use Rattle.run_chain.specs.Following.{first_stack}
+use Rattle.cmd_kit.proofs.Words.{◌≡◌, ℕ, Bool, true, if◌then◌else◌, List, [], ◌∷◌, ◌++◌, length, map, Option, Some, None, refl, ap, subst, insert}
+use Rattle.cmd_kit.proofs.Words.{bytes_eq-Decides, Trace, first_stack, Stated, Files, Answer, ChainLink, chain_from, chain_given, chain_link, chain_steps}
+use Rattle.cmd_kit.proofs.Words.{claimed_steps, follows_on, judged_steps, link_steps, IsVerdictFor, FollowsOn, LinkSays, LinksSay, IsAcceptedFor, IsGoodChain}
+use Rattle.cmd_kit.proofs.Words.{broken, list_steps, with_lines, ComesWhere, with_params, with_statement, with_trace, statement_steps, chain_evidence}
+use Rattle.cmd_kit.proofs.Words.{checked, Judged, Verdict, accepted, Steps, asking, ending}
 use Rattle.run_chain.specs.Names as names
-use Rattle.statement.specs.Statements.{Stated}
-use Rattle.vm_io.specs.Shelf.{Files}
 use Rattle.cmd_kit.specs.declared.status.Status.TheVariants as status
-use Rattle.cmd_kit.specs.declared.answer.Answer.{Answer}
-use Rattle.cmd_kit.specs.ChainSteps.{ChainLink, chain_from, chain_given, chain_link, chain_steps, claimed_steps, follows_on, judged_steps, link_steps}
-use Rattle.cmd_kit.specs.CheckEnds.{IsVerdictFor}
-use Rattle.cmd_kit.specs.Completeness.{FollowsOn, LinkSays, LinksSay, IsAcceptedFor, IsGoodChain}
-use Rattle.cmd_kit.specs.Links.{broken, list_steps, with_lines}
-use Rattle.cmd_kit.specs.Serving.{ComesWhere}
-use Rattle.cmd_kit.specs.Starts.{with_params, with_statement, with_trace, statement_steps}
-use Rattle.cmd_kit.specs.Steps.{chain_evidence, checked, Judged, Verdict, accepted, refused, Steps, asking, ending}
+use Rattle.cmd_kit.specs.Steps.{refused}
 use Rattle.cmd_kit.proofs.Verdicts.{not_both}
 use Rattle.cmd_kit.proofs.Walks as walks
 use Rattle.cmd_kit.proofs.Walks.{ended, read_on, was_found, was_written}

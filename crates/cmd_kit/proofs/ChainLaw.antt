@@ -1,26 +1,15 @@
 -- What stands where `chain` answers `Ok`: its steps, walked link by link.
-use Rattle.std.proofs.Common.{◌≡◌, ℕ, Bool, true, false, if◌then◌else◌, List, [], ◌∷◌, ◌++◌, length, map, append_assoc, append-nil, Option, Some, None, Ok, Err, refl, sym, ap, subst, ◌∙◌}
-use Rattle.std.specs.FinMap.{insert}
-use Rattle.air_kit.specs.declared.trace.Trace.{Trace}
-use Rattle.fill_files.specs.RunFiles.{most_table_bytes, most_statement_bytes}
-use Rattle.rpo_hash.specs.ParamText.{parameters_of}
-use Rattle.run_chain.specs.Lists.{Links, links_of}
+use Rattle.cmd_kit.proofs.Words.{◌≡◌, ℕ, Bool, true, false, if◌then◌else◌, List, [], ◌∷◌, ◌++◌, length, map, append_assoc, append-nil, Option, Some, None, Ok}
+use Rattle.cmd_kit.proofs.Words.{Err, refl, sym, ap, subst, ◌∙◌, insert, Trace, most_table_bytes, most_statement_bytes, parameters_of, Links, links_of}
+use Rattle.cmd_kit.proofs.Words.{Stated, statement_of, trace_of, Files, ShelfState, SinkState, with_piece, chain, ChainLink, chain_from, chain_given}
+use Rattle.cmd_kit.proofs.Words.{chain_link, chain_steps, claimed_steps, follows_on, judged_steps, link_steps, Finds, steps_of, LinkSays, LinksSay, broken}
+use Rattle.cmd_kit.proofs.Words.{list_steps, most_list_bytes, with_lines, ComesWhere, Prints, most_params_bytes, with_params, with_statement, with_trace}
+use Rattle.cmd_kit.proofs.Words.{statement_steps, chain_evidence, checked, Judged, Verdict, accepted, Steps, asking, ending, ends_with}
 use Rattle.run_chain.specs.Names as names
-use Rattle.statement.specs.Statements.{Stated, statement_of}
-use Rattle.table_file.specs.Files.{trace_of}
-use Rattle.vm_io.specs.Shelf.{Files, ShelfState}
-use Rattle.vm_io.specs.Sink.{SinkState, with_piece}
 use Rattle.cmd_kit.specs.declared.status.Status.TheVariants as status
-use Rattle.cmd_kit.specs.Asked.{chain}
 use Rattle.cmd_kit.specs.ChainEnds.{IsChainText, accepted_links_line}
 use Rattle.cmd_kit.specs.ChainLaws.{ChainStands, ChainHasEvidence}
-use Rattle.cmd_kit.specs.ChainSteps.{ChainLink, chain_from, chain_given, chain_link, chain_steps, claimed_steps, follows_on, judged_steps, link_steps}
-use Rattle.cmd_kit.specs.Commands.{Finds, steps_of}
-use Rattle.cmd_kit.specs.Completeness.{LinkSays, LinksSay}
-use Rattle.cmd_kit.specs.Links.{broken, list_steps, most_list_bytes, with_lines}
-use Rattle.cmd_kit.specs.Serving.{ComesWhere, Prints}
-use Rattle.cmd_kit.specs.Starts.{most_params_bytes, with_params, with_statement, with_trace, statement_steps}
-use Rattle.cmd_kit.specs.Steps.{chain_evidence, checked, Judged, Verdict, accepted, refused, Steps, asking, ending, ends_with}
+use Rattle.cmd_kit.specs.Steps.{refused}
 use Rattle.cmd_kit.proofs.ChainComplete.{follows_by_test}
 use Rattle.cmd_kit.proofs.ChainOneRun.{one_run}
 use Rattle.cmd_kit.proofs.EvidenceLaw.{claim_said, printed_as, trace_said}

@@ -1,9 +1,6 @@
 -- A chain of what `runs` wrote is answered `Ok`.
-use Rattle.std.proofs.Common.{sym, subst}
-use Rattle.cmd_kit.specs.Asked.{asked}
-use Rattle.cmd_kit.specs.Completeness.{IsGood}
+use Rattle.cmd_kit.proofs.Words.{sym, subst, asked, IsGood, kind_of}
 use Rattle.cmd_kit.specs.RunsLaws.{RunsMakeAChain}
-use Rattle.cmd_kit.specs.Statuses.{kind_of}
 use Rattle.cmd_kit.proofs.ApartNames.{chain_apart_names}
 use Rattle.cmd_kit.proofs.CompleteLaw.{no_fault}
 use Rattle.cmd_kit.proofs.Completeness.{good_is_ok}

@@ -1,23 +1,14 @@
 -- The runs that are the evidence of a chain are one run through all of their trees.
-use Rattle.std.proofs.Common.{ℕ, List, [], ◌∷◌, Some, None, refl, sym, subst}
-use Rattle.block_tree.specs.TreeView.{tree_of}
+use Rattle.cmd_kit.proofs.Words.{ℕ, List, [], ◌∷◌, Some, None, refl, sym, subst, tree_of, Trace, constants_of, first_stack, Stated, stated_of, Files}
+use Rattle.cmd_kit.proofs.Words.{ChainLink, IsEvidenceFor, LinksSay, Judged}
 use Rattle.block_tree.specs.Trees as trees
 use Rattle.block_tree.specs.declared.evidence.Evidence.{Evidence}
 use Rattle.block_tree.specs.declared.evidence.Evidence.TheVariants.{Run, Pair}
 use Rattle.block_tree.specs.declared.tree.Tree.{Tree}
-use Rattle.air_kit.specs.declared.trace.Trace.{Trace}
-use Rattle.rpo_hash.specs.Constants.{constants_of}
 use Rattle.run_chain.specs.Chains.{Ends, Leg, Link, RunsThrough, fresh}
-use Rattle.run_chain.specs.Following.{first_stack}
 use Rattle.run_chain.proofs.ChainLemmas.{chain-is-run}
-use Rattle.statement.specs.Statements.{Stated, stated_of}
-use Rattle.vm_io.specs.Shelf.{Files}
 use Rattle.cmd_kit.specs.ChainEnds.{AreEvidence}
 use Rattle.cmd_kit.specs.ChainLaws.{AreRuns, legs_of, stack_before, stack_behind}
-use Rattle.cmd_kit.specs.ChainSteps.{ChainLink}
-use Rattle.cmd_kit.specs.CheckEnds.{IsEvidenceFor}
-use Rattle.cmd_kit.specs.Completeness.{LinksSay}
-use Rattle.cmd_kit.specs.Steps.{Judged}
 
 -- what is run at a link, and from the stack with which its inputs start to its outputs
 abbrev leg : Stated → ℕ → trees.Tree → List ℕ → Leg

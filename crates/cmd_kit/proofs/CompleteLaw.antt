@@ -1,16 +1,11 @@
 -- What `run` wrote is good for every `check` of it, which is so answered `Ok`.
-use Rattle.std.proofs.Common.{◌≡◌, ◌⊎◌, ℕ, List, Option, Some, sym, subst, inl, inr, ◌∙◌}
-use Rattle.std.specs.FinMap.{get, insert}
-use Rattle.vm_io.specs.Shelf.{Files, ShelfState}
-use Rattle.vm_io.specs.Sink.{SinkState}
-use Rattle.vm_io.proofs.ShelfLemmas.{get_beside, get_put}
-use Rattle.cmd_kit.specs.declared.status.Status.{Status}
+use Rattle.cmd_kit.proofs.Words.{◌≡◌, ◌⊎◌, ℕ, List, Option, Some, sym, subst, inl, inr, ◌∙◌, get, insert, Files, ShelfState, SinkState, get_beside, get_put}
+use Rattle.cmd_kit.proofs.Words.{Status, StatusKind, kind_of, planned, no_command, failed_read, failed_write, failed_print, Outputs, asked, IsGood}
+use Rattle.cmd_kit.proofs.Words.{IsGoodCheck, IsFault}
 use Rattle.cmd_kit.specs.declared.status.Status.TheVariants as status
-use Rattle.cmd_kit.specs.Statuses.{StatusKind, kind_of, planned, no_command, failed_read, failed_write, failed_print, no_memory}
-use Rattle.cmd_kit.specs.Asked.{Outputs, asked}
+use Rattle.cmd_kit.specs.Statuses.{no_memory}
 use Rattle.cmd_kit.specs.Laws.{WrittenRunIsAccepted}
 use Rattle.cmd_kit.specs.RunLaws.{RunStands, RunLeavesGoodFiles}
-use Rattle.cmd_kit.specs.Completeness.{IsGood, IsGoodCheck, IsFault}
 use Rattle.cmd_kit.proofs.ApartNames.{AreApart, run_apart_names}
 use Rattle.cmd_kit.proofs.Completeness.{good_is_ok}
 use Rattle.cmd_kit.proofs.RunLaw.{answered_run_stands}

@@ -1,39 +1,24 @@
 -- Commands over good files, walked step by step to their ends.
-use Rattle.std.proofs.Common.{◌≡◌, ◌⊎◌, ℕ, List, Option, Some, None, Ok, refl, sym, ap, subst, inl, inr}
-use Rattle.std.specs.FinMap.{insert}
-use Rattle.vm_field.specs.Limits.{most_cycles}
-use Rattle.vm_field.specs.Machine.{State}
-use Rattle.rpo_hash.specs.ParamText.{parameters_of}
+use Rattle.cmd_kit.proofs.Words.{◌≡◌, ◌⊎◌, ℕ, List, Option, Some, None, Ok, refl, sym, ap, subst, inl, inr, insert, most_cycles, State, parameters_of}
+use Rattle.cmd_kit.proofs.Words.{Program, Given, Stated, Trace, Files, ShelfState, SinkState, Status, Answer, StatusKind, planned, no_command, failed_read}
+use Rattle.cmd_kit.proofs.Words.{failed_write, failed_print, kind_of, MadeNames, Outputs, hash, assemble, check, check_source, make, chain, runs, member}
+use Rattle.cmd_kit.proofs.Words.{asked, SourceFile, Steps, Verdict, accepted, Course, course, checked, telling, assembly, ending, ends_with, AssemblesFiles}
+use Rattle.cmd_kit.proofs.Words.{IsVerdictFor, IsCourse, outcome_of, EndsAs, steps_of, most_params_bytes, with_params, with_inputs, with_trace}
+use Rattle.cmd_kit.proofs.Words.{with_statement, params_steps, source_steps, kernel_steps, inputs_steps, trace_steps, statement_steps, hash_steps}
+use Rattle.cmd_kit.proofs.Words.{numbers_steps, assemble_steps, run_steps, running_steps, course_steps, check_steps, judging_steps, found_steps, make_steps}
+use Rattle.cmd_kit.proofs.Words.{making_steps, made_course_steps, made_source, made_given, ComesWhere, ServesAs, Works, FileSays, IsAcceptedFor, IsGood}
+use Rattle.cmd_kit.proofs.Words.{IsGoodHash, IsGoodAssembly, IsGoodRun, IsGoodCheck, IsGoodMake, IsFault, GoodIsOk}
 use Rattle.block_tree.specs.Execution as execution
 use Rattle.block_tree.specs.Execution.{Done, Outcome}
-use Rattle.block_tree.specs.declared.program.Program.{Program}
 use Rattle.number_files.specs.Grammar.{numbers_of}
-use Rattle.statement.specs.Inputs.{Given}
-use Rattle.statement.specs.Statements.{Stated}
-use Rattle.air_kit.specs.declared.trace.Trace.{Trace}
-use Rattle.vm_io.specs.Shelf.{Files, ShelfState}
-use Rattle.vm_io.specs.Sink.{SinkState}
-use Rattle.cmd_kit.specs.declared.status.Status.{Status}
 use Rattle.cmd_kit.specs.declared.status.Status.TheVariants as status
-use Rattle.cmd_kit.specs.declared.answer.Answer.{Answer}
-use Rattle.cmd_kit.specs.Statuses.{StatusKind, planned, no_command, failed_read, failed_write, failed_print, no_memory, kind_of}
-use Rattle.cmd_kit.specs.Asked.{Asked, MadeNames, Outputs, nothing, hash, assemble, run, check, check_source, make, chain, runs, member, asked}
-use Rattle.cmd_kit.specs.Steps.{SourceFile, Steps, Verdict, accepted, refused, Course, course, checked, telling, assembly, ending, ends_with}
-use Rattle.cmd_kit.specs.SourceEnds.{AssemblesFiles}
+use Rattle.cmd_kit.specs.Statuses.{no_memory}
+use Rattle.cmd_kit.specs.Asked.{Asked, nothing, run}
+use Rattle.cmd_kit.specs.Steps.{refused}
 use Rattle.cmd_kit.specs.AssembleEnds as assembling
 use Rattle.cmd_kit.specs.AssembleEnds.{AnswersAssembly, assembled}
 use Rattle.cmd_kit.specs.HashEnds.{hash_end}
-use Rattle.cmd_kit.specs.CheckEnds.{IsVerdictFor}
-use Rattle.cmd_kit.specs.RunEnds.{IsCourse, outcome_of}
-use Rattle.cmd_kit.specs.Commands.{EndsAs, steps_of}
-use Rattle.cmd_kit.specs.Starts.{most_params_bytes, with_params, with_inputs, with_trace, with_statement, params_steps, source_steps, kernel_steps, inputs_steps, trace_steps, statement_steps}
-use Rattle.cmd_kit.specs.HashSteps.{hash_steps, numbers_steps}
-use Rattle.cmd_kit.specs.AssembleSteps.{assemble_steps}
-use Rattle.cmd_kit.specs.RunSteps.{run_steps, running_steps, course_steps}
-use Rattle.cmd_kit.specs.CheckSteps.{check_steps, judging_steps, found_steps}
-use Rattle.cmd_kit.specs.MakeSteps.{make_steps, making_steps, made_course_steps, made_source, made_given}
-use Rattle.cmd_kit.specs.Serving.{ComesWhere, ServesAs, Works, Ends}
-use Rattle.cmd_kit.specs.Completeness.{FileSays, IsAcceptedFor, IsGood, IsGoodHash, IsGoodAssembly, IsGoodRun, IsGoodCheck, IsGoodMake, IsFault, GoodIsOk}
+use Rattle.cmd_kit.specs.Serving.{Ends}
 use Rattle.cmd_kit.proofs.Walks as walks
 use Rattle.cmd_kit.proofs.ChainComplete.{chained_well}
 use Rattle.cmd_kit.proofs.Courses.{bad_or_program, runs_out}

@@ -1,19 +1,11 @@
 -- What a source comes to, told once: a program that runs to its end is not stopped, and ends in one state.
-use Rattle.std.proofs.Common.{◌≡◌, ℕ, Bool, List, Option, Ok, Err, refl, sym, ap₂, ◌∙◌}
-use Rattle.std.specs.Option.{option_map}
-use Rattle.vm_field.specs.Machine.{State, start}
+use Rattle.cmd_kit.proofs.Words.{◌≡◌, ℕ, Bool, List, Option, Ok, Err, refl, subst, sym, ap₂, ◌∙◌, option_map, State, start, Program, one_program, u64_library}
+use Rattle.cmd_kit.proofs.Words.{Given, IsCourse, halted, trapped, unended, outcome_of, AssemblesFiles, SourceFile, Course, ran}
 use Rattle.block_tree.specs.Execution as execution
-use Rattle.block_tree.specs.Execution.{Done}
-use Rattle.block_tree.specs.declared.program.Program.{Program}
+use Rattle.block_tree.specs.Execution.{Done, IsCutOff, Outcome, OutOfCycles, Trap, cut_off}
 use Rattle.masm_link.specs.declared.refusal.AsmCause.{AsmCause}
 use Rattle.masm_link.specs.declared.refusal.AsmError.TheVariants.{Bad, Memory}
-use Rattle.masm_link.proofs.OneAnswer.{one_program}
-use Rattle.std_u64.specs.Libraries.{u64_library}
-use Rattle.statement.specs.Inputs.{Given}
 use Rattle.cmd_kit.specs.RunEnds as ends
-use Rattle.cmd_kit.specs.RunEnds.{IsCourse, halted, trapped, unended, outcome_of}
-use Rattle.cmd_kit.specs.SourceEnds.{AssemblesFiles}
-use Rattle.cmd_kit.specs.Steps.{SourceFile, Course, ran}
 
 -- what an assembled source comes to once more
 pub bad_or_program : (constants : List ℕ) (source : SourceFile) (kernel : Option SourceFile) (program : Program) (in_kernel : Bool) (line column : ℕ)
@@ -43,6 +35,18 @@ pub record RunsOut (last : State) (c : Course) : Type 0 where
 done_in : (a b : State) (x y : List execution.Event) → Done a x ≡ Done b y → a ≡ b
 done_in a b x y same = cc
 
+abbrev IsDone : Outcome → Type 0
+IsDone (Done last log) = Unit {0}
+IsDone (Trap clock cause) = ⊥
+IsDone (OutOfCycles last log) = ⊥
+
+-- what is cut off is not done
+cut_not_done : (o : Outcome) → IsCutOff o → IsDone o → ⊥
+cut_not_done o (cut_off last log) h = h
+
+not_cut : (last : State) (log : List execution.Event) → IsCutOff (Done last log) → ⊥
+not_cut last log h = cut_not_done (Done last log) h tt
+
 -- is not stopped
 pub runs_out : (constants : List ℕ) (source : SourceFile) (kernel : Option SourceFile) (given : Given) (limit : ℕ) (program : Program) (last : State)
     (log : List execution.Event) (c : Course)
@@ -53,7 +57,7 @@ runs_out constants source kernel given limit program last log c is done (ends.re
 runs_out constants source kernel given limit program last log c is done (halted other made b (trapped clock cause traps)) =
     absurd (let eq = sym traps ∙ same_outcome constants source kernel program other given limit is made ∙ done in cc)
 runs_out constants source kernel given limit program last log c is done (halted other made b (unended out)) =
-    absurd (let eq = sym out ∙ same_outcome constants source kernel program other given limit is made ∙ done in cc)
+    absurd (not_cut last log (subst IsCutOff (same_outcome constants source kernel program other given limit is made ∙ done) out))
 runs_out constants source kernel given limit program last log c is done (ends.ended other made end events r) =
     record {
       program = other;

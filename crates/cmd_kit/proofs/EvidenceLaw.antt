@@ -1,28 +1,14 @@
 -- What stands where `check` answers `Ok`: its steps, walked one after the other.
-use Rattle.std.proofs.Common.{◌≡◌, ℕ, List, Option, Some, Result, Ok, Err, refl, sym, ap, subst}
-use Rattle.std.specs.Option.{IsSomeAnd}
-use Rattle.std.specs.FinMap.{get, insert}
-use Rattle.fill_files.specs.RunFiles.{most_table_bytes, most_statement_bytes}
-use Rattle.rpo_hash.specs.ParamText.{parameters_of}
+use Rattle.cmd_kit.proofs.Words.{◌≡◌, ℕ, List, Option, Some, Result, Ok, Err, refl, sym, ap, subst, IsSomeAnd, get, insert, most_table_bytes}
+use Rattle.cmd_kit.proofs.Words.{most_statement_bytes, parameters_of, Stated, statement_of, TextCause, Trace, trace_of, FileError, Files, ShelfState}
+use Rattle.cmd_kit.proofs.Words.{SinkState, with_piece, Answer, check, telling, Question, checked, Verdict, accepted, Steps, ending, ends_with, accepted_line}
+use Rattle.cmd_kit.proofs.Words.{Finds, steps_of, most_params_bytes, with_params, with_trace, with_statement, trace_steps, statement_steps, check_steps}
+use Rattle.cmd_kit.proofs.Words.{judging_steps, found_steps, ComesWhere, Prints}
 use Rattle.statement.specs.EvidenceText.{evidence_text}
-use Rattle.statement.specs.Statements.{Stated, statement_of}
-use Rattle.statement.specs.declared.refusal.TextCause.{TextCause}
-use Rattle.air_kit.specs.declared.trace.Trace.{Trace}
-use Rattle.table_file.specs.Files.{trace_of}
-use Rattle.table_file.specs.declared.cause.FileError.{FileError}
 use Rattle.table_file.specs.declared.cause.FileError.TheVariants as file_error
 use Rattle.table_file.specs.declared.cause.FileError.TheVariants.{Bad}
-use Rattle.vm_io.specs.Shelf.{Files, ShelfState}
-use Rattle.vm_io.specs.Sink.{SinkState, with_piece}
 use Rattle.cmd_kit.specs.declared.status.Status.TheVariants as status
-use Rattle.cmd_kit.specs.declared.answer.Answer.{Answer}
-use Rattle.cmd_kit.specs.Asked.{check}
-use Rattle.cmd_kit.specs.Steps.{telling, evidence_for, Question, checked, Verdict, accepted, refused, Steps, ending, ends_with}
-use Rattle.cmd_kit.specs.CheckEnds.{accepted_line}
-use Rattle.cmd_kit.specs.Commands.{Finds, steps_of}
-use Rattle.cmd_kit.specs.Starts.{most_params_bytes, with_params, with_trace, with_statement, trace_steps, statement_steps}
-use Rattle.cmd_kit.specs.CheckSteps.{check_steps, judging_steps, found_steps}
-use Rattle.cmd_kit.specs.Serving.{ComesWhere, Prints}
+use Rattle.cmd_kit.specs.Steps.{evidence_for, refused}
 use Rattle.cmd_kit.specs.Laws.{AreAccepted, EvidenceStands, AcceptedHasEvidence}
 use Rattle.cmd_kit.proofs.Walks as walks
 use Rattle.cmd_kit.proofs.Walks.{not_ok}

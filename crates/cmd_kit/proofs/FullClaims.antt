@@ -1,15 +1,11 @@
 -- A statement that is read has sixteen outputs at least.
-use Rattle.std.proofs.Common.{◌≡◌, ℕ, ◌≤◌, Bool, true, false, ◌&&◌, nat_le, if◌then◌else◌, List, length, Result, Ok, Err, refl, subst, arith}
-use Rattle.std.specs.Option.{ok_or}
-use Rattle.std.proofs.lemmas.Bool.{and_parts}
-use Rattle.std.proofs.lemmas.Bool.Decides.{nat_tests}
-use Rattle.vm_field.specs.Limits.{least_depth, most_inputs, most_kernel, most_outputs}
+use Rattle.cmd_kit.proofs.Words.{◌≡◌, ℕ, ◌≤◌, Bool, true, false, ◌&&◌, nat_le, if◌then◌else◌, List, length, Result, Ok, Err, refl, subst, arith, ok_or}
+use Rattle.cmd_kit.proofs.Words.{and_parts, nat_tests, least_depth, most_inputs, most_kernel, most_outputs, Stated, statement_of, TextCause, NotJson, Shape}
+use Rattle.cmd_kit.proofs.Words.{Element, Digest, Count, Repeated}
 use Rattle.vm_field.specs.WordText.{word_of_hex}
 use Rattle.statement.specs.Causes.{and_then}
-use Rattle.statement.specs.Statements.{Parts, Stated, are_distinct, claim_by, claim_from, has_counts, parts_of, statement_of}
+use Rattle.statement.specs.Statements.{Parts, are_distinct, claim_by, claim_from, has_counts, parts_of}
 use Rattle.statement.specs.Values.{elements_of, value_of, words_of}
-use Rattle.statement.specs.declared.refusal.TextCause.{TextCause}
-use Rattle.statement.specs.declared.refusal.TextCause.TheVariants.{NotJson, Shape, Element, Digest, Count, Repeated}
 
 -- a step that gives a value had one before it
 passed : {A B : Type 0} (r : Result A TextCause) (step : A → Result B TextCause) (b : B) → and_then r step ≡ Ok b → (a : A) × (step a ≡ Ok b)

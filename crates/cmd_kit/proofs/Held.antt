@@ -1,22 +1,11 @@
 -- An accepted trace that is held against a tree: what stands where that ended with `Ok`, and where it ends so.
-use Rattle.std.proofs.Common.{◌≡◌, ℕ, Bool, true, false, if◌then◌else◌, List, Option, Some, refl, ap, subst}
-use Rattle.std.specs.FinMap.{insert}
-use Rattle.std.specs.Str.{bytes_eq}
-use Rattle.std.proofs.lemmas.Slice.Eq.{bytes_eq-Decides}
+use Rattle.cmd_kit.proofs.Words.{◌≡◌, ℕ, Bool, true, false, if◌then◌else◌, List, Option, Some, refl, ap, subst, insert, bytes_eq, bytes_eq-Decides}
+use Rattle.cmd_kit.proofs.Words.{SourceEvidence, Stated, Trace, Files, Answer, IsVerdictFor, IsSourceEvidenceFor, accepted_source_line, other_program_line}
+use Rattle.cmd_kit.proofs.Words.{held_steps, sourced_steps, IsAcceptedFor, ComesWhere, stop, checked, Verdict, accepted, Steps, asking, ending, ends_with}
 use Rattle.block_tree.specs.Trees.{Tree, tree_digest}
 use Rattle.source_check.specs.SourceText.{source_evidence_text}
-use Rattle.source_check.specs.declared.evidence.SourceEvidence.{SourceEvidence}
-use Rattle.statement.specs.Statements.{Stated}
-use Rattle.air_kit.specs.declared.trace.Trace.{Trace}
-use Rattle.vm_io.specs.Shelf.{Files}
 use Rattle.cmd_kit.specs.declared.status.Status.TheVariants as status
-use Rattle.cmd_kit.specs.declared.answer.Answer.{Answer}
-use Rattle.cmd_kit.specs.CheckEnds.{IsVerdictFor}
-use Rattle.cmd_kit.specs.CheckSourceEnds.{IsSourceEvidenceFor, accepted_source_line, other_program_line}
-use Rattle.cmd_kit.specs.CheckSourceSteps.{held_steps, sourced_steps}
-use Rattle.cmd_kit.specs.Completeness.{IsAcceptedFor}
-use Rattle.cmd_kit.specs.Serving.{ComesWhere}
-use Rattle.cmd_kit.specs.Steps.{stop, telling_source, source_evidence_for, checked, Verdict, accepted, refused, Steps, asking, ending, ends_with}
+use Rattle.cmd_kit.specs.Steps.{telling_source, source_evidence_for, refused}
 use Rattle.cmd_kit.proofs.EvidenceLaw.{written_as}
 use Rattle.cmd_kit.proofs.Verdicts.{not_both, one_verdict}
 use Rattle.cmd_kit.proofs.Walks.{Done, ended, not_ok, was_found, was_written}

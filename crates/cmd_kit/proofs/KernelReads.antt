@@ -1,11 +1,5 @@
 -- A kernel that stands is read on from, and so is none.
-use Rattle.std.proofs.Common.{ℕ, List, Option, Some, None, sym, subst}
-use Rattle.vm_io.specs.Shelf.{Files}
-use Rattle.cmd_kit.specs.declared.answer.Answer.{Answer}
-use Rattle.cmd_kit.specs.Completeness.{HoldsKernel}
-use Rattle.cmd_kit.specs.Serving.{ComesWhere}
-use Rattle.cmd_kit.specs.Starts.{kernel_steps}
-use Rattle.cmd_kit.specs.Steps.{SourceFile, Steps}
+use Rattle.cmd_kit.proofs.Words.{ℕ, List, Option, Some, None, sym, subst, Files, Answer, HoldsKernel, ComesWhere, kernel_steps, SourceFile, Steps}
 use Rattle.cmd_kit.proofs.Walks as walks
 use Rattle.cmd_kit.proofs.Walks.{read_on}
 

@@ -1,17 +1,12 @@
 -- The laws of `specs/Laws`.
-use Rattle.std.proofs.Common.{◌≡◌, ◌⊎◌, ℕ, List, Option, Some, None, refl, sym, ap, subst, inl, inr, ◌∙◌, Contains, take}
-use Rattle.std.specs.FinMap.{insert}
-use Rattle.vm_io.specs.Shelf.{Files, ShelfState, with_file}
-use Rattle.vm_io.specs.Sink.{SinkState}
-use Rattle.vm_io.proofs.ShelfLemmas.{get_beside}
-use Rattle.cmd_kit.specs.declared.status.Status.{Status}
+use Rattle.cmd_kit.proofs.Words.{◌≡◌, ◌⊎◌, ℕ, List, Option, Some, None, refl, sym, ap, subst, inl, inr, ◌∙◌, Contains, take, insert, Files, ShelfState}
+use Rattle.cmd_kit.proofs.Words.{with_file, SinkState, get_beside, Status, Answer, StatusKind, planned, no_command, failed_read, failed_write, failed_print}
+use Rattle.cmd_kit.proofs.Words.{kind_of, hash, assemble, check, check_source, make, chain, runs, member, asked, Steps, reading, writing, asking, ending}
+use Rattle.cmd_kit.proofs.Words.{steps_of, Passes, past_read, past_write, past_finding, ComesWhere, Works, GivesUp, Prints, ServesAs}
 use Rattle.cmd_kit.specs.declared.status.Status.TheVariants as status
-use Rattle.cmd_kit.specs.declared.answer.Answer.{Answer}
-use Rattle.cmd_kit.specs.Statuses.{StatusKind, planned, no_command, failed_read, failed_write, failed_print, no_memory, kind_of}
-use Rattle.cmd_kit.specs.Asked.{Asked, nothing, hash, assemble, run, check, check_source, make, chain, runs, member, asked}
-use Rattle.cmd_kit.specs.Steps.{Steps, reading, writing, asking, ending}
-use Rattle.cmd_kit.specs.Commands.{steps_of}
-use Rattle.cmd_kit.specs.Serving.{Holds, Passes, none_yet, past_read, past_write, past_finding, ComesWhere, IsWriting, FrontWritten, Works, GivesUp, Prints, ServesAs}
+use Rattle.cmd_kit.specs.Statuses.{no_memory}
+use Rattle.cmd_kit.specs.Asked.{Asked, nothing, run}
+use Rattle.cmd_kit.specs.Serving.{Holds, none_yet, IsWriting, FrontWritten}
 use Rattle.cmd_kit.specs.Laws.{WritesOnly, StayBeside, OtherFilesStay, UsageMeansNothing, NothingGivesUsage}
 
 -- the files of m stay in what is told now

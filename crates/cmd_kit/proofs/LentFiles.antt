@@ -1,6 +1,5 @@
 -- A kernel that is lent is the one that is held.
-use Rattle.std.proofs.Common.{◌≡◌, Option, Some, None, Bor, ap}
-use Rattle.std.specs.Option.{option_copied, option_map}
+use Rattle.cmd_kit.proofs.Words.{◌≡◌, Option, Some, None, Bor, ap, option_copied, option_map}
 use Rattle.cmd_kit.specs.Sources.{file_of}
 use Rattle.cmd_kit.specs.declared.source.SourceFile as held
 

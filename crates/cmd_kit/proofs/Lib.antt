@@ -26,9 +26,11 @@ pub mod RunsLeave
 pub mod RunsNames
 pub mod RunsTell
 pub mod OutcomeLemmas
+pub mod PrintingLemmas
 pub mod ServingLemmas
 pub mod SourceComplete
 pub mod SourceLaw
+pub mod Words
 pub mod WriteLaw
 pub mod Verdicts
 pub mod Walks

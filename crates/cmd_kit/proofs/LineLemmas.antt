@@ -1,13 +1,6 @@
 -- A line of a list: its names, and those of the lines behind it.
-use Rattle.std.proofs.Common.{◌≡◌, ℕ, zero, suc, ◌+◌, ◌<◌, ◌≤◌, true, List, [], ◌∷◌, drop, get_or, length, map, Bor, Some, slice_get, sym, ap, subst, ◌∙◌, arith}
-use Rattle.std.specs.List.{AllByRecursion, list_all}
-use Rattle.std.proofs.lemmas.Bool.{and_parts}
-use Rattle.std.proofs.lemmas.Bool.Decides.{nat_tests}
-use Rattle.vm_field.specs.FileName.{is_file_name}
-use Rattle.vm_field.specs.Limits.{most_name_bytes}
-use Rattle.run_chain.specs.ListText.{IsLine}
-use Rattle.cmd_kit.specs.ChainSteps.{chain_link}
-use Rattle.cmd_kit.specs.RunsSteps.{run_link}
+use Rattle.cmd_kit.proofs.Words.{◌≡◌, ℕ, zero, suc, ◌+◌, ◌<◌, ◌≤◌, true, List, [], ◌∷◌, drop, get_or, length, map, Bor, Some, slice_get, sym, ap, subst, ◌∙◌}
+use Rattle.cmd_kit.proofs.Words.{arith, AllByRecursion, list_all, and_parts, nat_tests, is_file_name, most_name_bytes, IsLine, chain_link, run_link}
 
 same : (a b : List (List ℕ)) → Some a ≡ Some b → a ≡ b
 same a b e = cc

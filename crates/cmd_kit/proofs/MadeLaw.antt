@@ -1,30 +1,12 @@
 -- What `make` left where it answered `Ok`: its steps, walked one after the other.
-use Rattle.std.proofs.Common.{◌≡◌, ℕ, List, [], Option, Some, None, Ok, ap, subst}
-use Rattle.std.specs.FinMap.{insert}
-use Rattle.vm_field.specs.Limits.{most_cycles}
-use Rattle.vm_field.specs.Machine.{State}
-use Rattle.rpo_hash.specs.ParamText.{parameters_of}
+use Rattle.cmd_kit.proofs.Words.{◌≡◌, ℕ, List, [], Option, Some, None, Ok, ap, subst, insert, most_cycles, State, parameters_of, tree_of, Program}
+use Rattle.cmd_kit.proofs.Words.{inputs_text, source_text, squares, IsWholeRun, files_accepted, Files, ShelfState, SinkState, with_piece, Status, Answer}
+use Rattle.cmd_kit.proofs.Words.{MadeNames, make, Steps, Course, course, ending, stop, ends_with, AssemblesFiles, IsCourse, halted, trapped, unended}
+use Rattle.cmd_kit.proofs.Words.{made_course_steps, made_given, made_source, make_steps, making_steps, steps_of, ComesWhere, Prints}
 use Rattle.block_tree.specs.Execution as run
-use Rattle.block_tree.specs.TreeView.{tree_of}
-use Rattle.block_tree.specs.declared.program.Program.{Program}
-use Rattle.statement.specs.Inputs.{inputs_text}
-use Rattle.workloads.specs.Workloads.{source_text, squares}
-use Rattle.complete_rows.specs.BlockRows.{IsWholeRun}
-use Rattle.fill_files.proofs.AcceptedLemmas.{files_accepted}
-use Rattle.vm_io.specs.Shelf.{Files, ShelfState}
-use Rattle.vm_io.specs.Sink.{SinkState, with_piece}
-use Rattle.cmd_kit.specs.declared.status.Status.{Status}
 use Rattle.cmd_kit.specs.declared.status.Status.TheVariants as status
-use Rattle.cmd_kit.specs.declared.answer.Answer.{Answer}
-use Rattle.cmd_kit.specs.Asked.{MadeNames, make}
-use Rattle.cmd_kit.specs.Steps.{Steps, Course, course, ending, stop, ends_with}
-use Rattle.cmd_kit.specs.SourceEnds.{AssemblesFiles}
 use Rattle.cmd_kit.specs.RunEnds as ends
-use Rattle.cmd_kit.specs.RunEnds.{IsCourse, halted, trapped, unended}
 use Rattle.cmd_kit.specs.MakeEnds.{make_lines}
-use Rattle.cmd_kit.specs.MakeSteps.{made_course_steps, made_given, made_source, make_steps, making_steps}
-use Rattle.cmd_kit.specs.Commands.{steps_of}
-use Rattle.cmd_kit.specs.Serving.{ComesWhere, Prints}
 use Rattle.cmd_kit.specs.MakeLaws.{AnsweredMakeStands, MadeStands}
 use Rattle.cmd_kit.proofs.Walks.{Done, ended, not_ok, params_said, was_found, was_read, was_written}
 

@@ -1,22 +1,12 @@
 -- `make` is never refused.
-use Rattle.std.proofs.Common.{◌≡◌, ◌≢◌, ℕ, List, Option, Some, None, Result, Ok, Err, refl, sym, ap, subst, ◌∙◌}
-use Rattle.vm_field.specs.Limits.{most_cycles}
-use Rattle.rpo_hash.specs.ParamText.{parameters_of}
-use Rattle.rpo_hash.specs.declared.params.ParamError.{ParamError}
-use Rattle.vm_io.specs.Shelf.{Files, with_file}
-use Rattle.cmd_kit.specs.declared.status.Status.{Status}
+use Rattle.cmd_kit.proofs.Words.{◌≡◌, ◌≢◌, ℕ, List, Option, Some, None, Result, Ok, Err, refl, sym, ap, subst, ◌∙◌, most_cycles, parameters_of, ParamError}
+use Rattle.cmd_kit.proofs.Words.{Files, with_file, Status, Answer, kind_of, MadeNames, make, asked, EndsAs, Finds, steps_of, make_steps, making_steps}
+use Rattle.cmd_kit.proofs.Words.{made_course_steps, made_source, made_given, IsCourse, halted, trapped, unended, Passes, past_read, past_write, past_finding}
+use Rattle.cmd_kit.proofs.Words.{Concludes, Prints, ServesAs, with_params, Course, Finding, Steps, reading, writing, asking, ending, ends_with}
 use Rattle.cmd_kit.specs.declared.status.Status.TheVariants as status
-use Rattle.cmd_kit.specs.declared.answer.Answer.{Answer}
-use Rattle.cmd_kit.specs.Statuses.{kind_of}
-use Rattle.cmd_kit.specs.Asked.{MadeNames, make, asked}
-use Rattle.cmd_kit.specs.Commands.{EndsAs, Finds, steps_of}
 use Rattle.cmd_kit.specs.MakeLaws.{MakeIsNotRefused}
-use Rattle.cmd_kit.specs.MakeSteps.{make_steps, making_steps, made_course_steps, made_source, made_given}
 use Rattle.cmd_kit.specs.RunEnds as ends
-use Rattle.cmd_kit.specs.RunEnds.{IsCourse, halted, trapped, unended}
-use Rattle.cmd_kit.specs.Serving.{Passes, none_yet, past_read, past_write, past_finding, Concludes, RefusesFile, Ends, Prints, ServesAs}
-use Rattle.cmd_kit.specs.Starts.{with_params}
-use Rattle.cmd_kit.specs.Steps.{Course, Finding, Steps, reading, writing, asking, ending, ends_with}
+use Rattle.cmd_kit.specs.Serving.{none_yet, RefusesFile, Ends}
 
 -- no end that the steps may come to is a refusal
 abbrev NeverRefuses : Steps → Type 0

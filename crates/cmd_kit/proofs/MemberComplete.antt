@@ -1,16 +1,7 @@
 -- `member` over good files, walked step by step to its end.
-use Rattle.std.proofs.Common.{◌≡◌, ℕ, List, Option, Some, subst}
-use Rattle.merkle_lib.specs.Programs.{walk_tree}
-use Rattle.statement.specs.Statements.{Stated}
-use Rattle.air_kit.specs.declared.trace.Trace.{Trace}
-use Rattle.vm_io.specs.Shelf.{Files}
+use Rattle.cmd_kit.proofs.Words.{◌≡◌, ℕ, List, Option, Some, subst, walk_tree, Stated, Trace, Files, Answer, IsGoodMember, member_line, member_steps}
+use Rattle.cmd_kit.proofs.Words.{walked_steps, ComesWhere, with_params, with_statement, with_trace, statement_steps, trace_steps, Steps}
 use Rattle.cmd_kit.specs.declared.status.Status.TheVariants as status
-use Rattle.cmd_kit.specs.declared.answer.Answer.{Answer}
-use Rattle.cmd_kit.specs.Completeness.{IsGoodMember}
-use Rattle.cmd_kit.specs.MemberSteps.{member_line, member_steps, walked_steps}
-use Rattle.cmd_kit.specs.Serving.{ComesWhere}
-use Rattle.cmd_kit.specs.Starts.{with_params, with_statement, with_trace, statement_steps, trace_steps}
-use Rattle.cmd_kit.specs.Steps.{Steps}
 use Rattle.cmd_kit.proofs.Held.{held_ok}
 use Rattle.cmd_kit.proofs.Walks as walks
 use Rattle.cmd_kit.proofs.Walks.{read_on}

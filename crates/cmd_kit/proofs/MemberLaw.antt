@@ -1,42 +1,24 @@
 -- What stands where `member` answers `Ok`: its steps, walked one after the other, and the path of a run.
-use Rattle.std.proofs.Common.{◌≡◌, ℕ, suc, ◌<◌, List, [], ◌∷◌, length, slice_index, Some, Ok, sym, ap, subst}
+use Rattle.cmd_kit.proofs.Words.{◌≡◌, ℕ, suc, ◌<◌, List, [], ◌∷◌, length, slice_index, Some, Ok, sym, ap, subst, number_of_constants, start, constants_of}
+use Rattle.cmd_kit.proofs.Words.{parameters_of, tree_of, walk_tree, SourceEvidence, Ran, ClashFile, ClashNode, ran-is-source, Stated, statement_of, Trace}
+use Rattle.cmd_kit.proofs.Words.{AreTables, trace_of, Files, ShelfState, SinkState, with_piece, member, IsSourceEvidenceFor, accepted_source_line, steps_of}
+use Rattle.cmd_kit.proofs.Words.{member_line, member_steps, walked_steps, ComesWhere, Prints, statement_steps, trace_steps, Steps, ends_with}
 use Rattle.vm_field.specs.Field.{prime, AreElements}
-use Rattle.vm_field.specs.Limits.{number_of_constants}
-use Rattle.vm_field.specs.Machine.{start}
 use Rattle.vm_field.proofs.Elements.{elements-append, elements-none, elements-one, elements-two}
 use Rattle.vm_ops.specs.declared.op.Op.{Op}
 use Rattle.vm_ops.specs.declared.op.Op.TheVariants as ops
 use Rattle.vm_table.specs.Layout.{row_at}
 use Rattle.vm_table.specs.MainColumns.{s}
-use Rattle.rpo_hash.specs.Constants.{constants_of}
-use Rattle.rpo_hash.specs.ParamText.{parameters_of}
 use Rattle.rpo_hash.proofs.WholeText.{text-read}
 use Rattle.block_tree.specs.Execution.{Done, execution}
 use Rattle.block_tree.specs.Trees.{Tree}
-use Rattle.block_tree.specs.TreeView.{tree_of}
-use Rattle.merkle_lib.specs.Programs.{walk_tree}
 use Rattle.merkle_lib.specs.Walks.{RunsOut}
 use Rattle.merkle_lib.proofs.Law.{run-path}
-use Rattle.source_check.specs.declared.evidence.SourceEvidence.{SourceEvidence}
-use Rattle.source_check.specs.declared.evidence.SourceEvidence.TheVariants.{Ran, ClashFile, ClashNode}
-use Rattle.source_check.proofs.SourceLemmas.{ran-is-source}
-use Rattle.statement.specs.Statements.{Stated, statement_of}
 use Rattle.air_kit.specs.Flags.{op_of}
 use Rattle.air_kit.specs.RowStates.{taken_by, tape_of}
 use Rattle.air_kit.specs.declared.trace.TableName.TheVariants as table_name
-use Rattle.air_kit.specs.declared.trace.Trace.{Trace}
-use Rattle.table_file.specs.Files.{AreTables, trace_of}
-use Rattle.vm_io.specs.Shelf.{Files, ShelfState}
-use Rattle.vm_io.specs.Sink.{SinkState, with_piece}
 use Rattle.cmd_kit.specs.declared.status.Status.TheVariants as status
-use Rattle.cmd_kit.specs.Asked.{member}
-use Rattle.cmd_kit.specs.CheckSourceEnds.{IsSourceEvidenceFor, accepted_source_line}
-use Rattle.cmd_kit.specs.Commands.{steps_of}
 use Rattle.cmd_kit.specs.MemberLaws.{HasPath, MemberHasPath, MemberStands}
-use Rattle.cmd_kit.specs.MemberSteps.{member_line, member_steps, walked_steps}
-use Rattle.cmd_kit.specs.Serving.{ComesWhere, Prints}
-use Rattle.cmd_kit.specs.Starts.{statement_steps, trace_steps}
-use Rattle.cmd_kit.specs.Steps.{Steps, ends_with}
 use Rattle.cmd_kit.proofs.EvidenceLaw.{claim_said, printed_as, trace_said}
 use Rattle.cmd_kit.proofs.Held.{was_held}
 use Rattle.cmd_kit.proofs.Walks as walks

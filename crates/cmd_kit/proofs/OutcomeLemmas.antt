@@ -1,8 +1,7 @@
 -- Answers whose line took memory.
-use Rattle.std.proofs.Common.{◌≡◌, ℕ, List, Result, Ok, Err, subst, sym}
+use Rattle.cmd_kit.proofs.Words.{◌≡◌, ℕ, List, Result, Ok, Err, subst, sym, Status}
 use Rattle.std.specs.Result.{IfOk}
 use Rattle.vm_field.specs.declared.refusal.Memory.{Memory}
-use Rattle.cmd_kit.specs.declared.status.Status.{Status}
 use Rattle.cmd_kit.specs.declared.outcome.Outcome.{Outcome}
 use Rattle.cmd_kit.specs.Outcomes.{SaysStatus, SaysLine}
 

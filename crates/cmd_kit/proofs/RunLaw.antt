@@ -1,35 +1,18 @@
 -- What `run` left where it answered `Ok`: its steps, walked one after the other.
-use Rattle.std.proofs.Common.{◌≡◌, ℕ, suc, List, ◌++◌, length, Option, Some, None, Result, Ok, Err, refl, sym, ap, subst, arith}
-use Rattle.std.specs.FinMap.{insert}
-use Rattle.vm_field.specs.Machine.{State}
-use Rattle.rpo_hash.specs.ParamText.{parameters_of}
+use Rattle.cmd_kit.proofs.Words.{◌≡◌, ℕ, suc, List, ◌++◌, length, Option, Some, None, Result, Ok, Err, refl, sym, ap, subst, arith, insert, State}
+use Rattle.cmd_kit.proofs.Words.{parameters_of, tree_of, Program, Given, inputs_of, TextCause, IsWholeRun, filled, IsTableFileOf, IsStatementFileOf}
+use Rattle.cmd_kit.proofs.Words.{claim_of_run, files_accepted, Files, ShelfState, SinkState, with_piece, Status, Answer, Outputs, SourceFile, Steps, Course}
+use Rattle.cmd_kit.proofs.Words.{course, ending, stop, ends_with, AssemblesFiles, IsCourse, halted, trapped, unended, run_lines, steps_of, with_inputs}
+use Rattle.cmd_kit.proofs.Words.{source_steps, inputs_steps, kernel_steps, run_steps, running_steps, course_steps, ComesWhere, Prints, HoldsKernel}
+use Rattle.cmd_kit.proofs.Words.{HoldsSource, IsGoodRun}
 use Rattle.block_tree.specs.Execution as run
-use Rattle.block_tree.specs.TreeView.{tree_of}
-use Rattle.block_tree.specs.declared.program.Program.{Program}
-use Rattle.statement.specs.Inputs.{Given, inputs_of}
-use Rattle.statement.specs.declared.refusal.TextCause.{TextCause}
 use Rattle.air_kit.specs.RowStates.{tape_of}
-use Rattle.complete_rows.specs.BlockRows.{IsWholeRun, filled}
 use Rattle.complete_rows.proofs.TableLemmas.{rows_counted}
 use Rattle.complete_requests.proofs.TapeLaw.{run_takes}
-use Rattle.fill_files.specs.RunFiles.{IsTableFileOf, IsStatementFileOf, claim_of_run}
-use Rattle.fill_files.proofs.AcceptedLemmas.{files_accepted}
 use Rattle.fill_files.proofs.RunLemmas.{clock_at_end}
-use Rattle.vm_io.specs.Shelf.{Files, ShelfState}
-use Rattle.vm_io.specs.Sink.{SinkState, with_piece}
-use Rattle.cmd_kit.specs.declared.status.Status.{Status}
 use Rattle.cmd_kit.specs.declared.status.Status.TheVariants as status
-use Rattle.cmd_kit.specs.declared.answer.Answer.{Answer}
-use Rattle.cmd_kit.specs.Asked.{Outputs, run}
-use Rattle.cmd_kit.specs.Steps.{SourceFile, Steps, Course, course, ending, stop, ends_with}
-use Rattle.cmd_kit.specs.SourceEnds.{AssemblesFiles}
+use Rattle.cmd_kit.specs.Asked.{run}
 use Rattle.cmd_kit.specs.RunEnds as ends
-use Rattle.cmd_kit.specs.RunEnds.{IsCourse, halted, trapped, unended, run_lines}
-use Rattle.cmd_kit.specs.Commands.{steps_of}
-use Rattle.cmd_kit.specs.Starts.{with_inputs, source_steps, inputs_steps, kernel_steps}
-use Rattle.cmd_kit.specs.RunSteps.{run_steps, running_steps, course_steps}
-use Rattle.cmd_kit.specs.Serving.{ComesWhere, Prints}
-use Rattle.cmd_kit.specs.Completeness.{HoldsKernel, HoldsSource, IsGoodRun}
 use Rattle.cmd_kit.specs.RunLaws.{AnsweredRunStands, RunStands, claim_of_good}
 use Rattle.cmd_kit.proofs.Walks.{Done, ended, not_ok, params_said, was_found, was_read, was_written}
 

@@ -1,30 +1,12 @@
 -- What `runs` wrote is a good chain: each statement follows the one before, and each trace is accepted for it.
-use Rattle.std.proofs.Common.{◌≡◌, ◌≢◌, ℕ, suc, ◌+◌, ◌-◌, ◌≤◌, Bool, true, false, List, [], ◌∷◌, ◌++◌, length, length-append, map, arith, append-nil, Option, Some, None, Ok, refl, sym, ap, subst, ◌∙◌}
-use Rattle.std.specs.FinMap.{get, insert}
-use Rattle.std.specs.List.{AllByRecursion, flat_map, join_with_byte, list_all, list_any}
-use Rattle.std.specs.Option.{IfSome}
-use Rattle.std.specs.Str.{bytes_eq}
-use Rattle.std.proofs.lemmas.Bool.{and_parts}
-use Rattle.std.proofs.lemmas.List.{length-map}
-use Rattle.std.proofs.lemmas.Slice.Eq.{bytes_eq-Decides}
-use Rattle.vm_field.specs.FileName.{is_file_name}
-use Rattle.vm_field.specs.Limits.{least_depth}
-use Rattle.vm_field.specs.Machine.{start}
-use Rattle.run_chain.specs.declared.naming.Role.TheVariants.{Input, Output}
-use Rattle.run_chain.specs.Following.{first_stack}
-use Rattle.run_chain.specs.ListText.{IsLine, IsList, line_text, list_text}
+use Rattle.cmd_kit.proofs.Words.{◌≡◌, ◌≢◌, ℕ, suc, ◌+◌, ◌-◌, ◌≤◌, Bool, true, false, List, [], ◌∷◌, ◌++◌, length, length-append, map, arith, append-nil}
+use Rattle.cmd_kit.proofs.Words.{Option, Some, None, Ok, refl, sym, ap, subst, ◌∙◌, get, insert, AllByRecursion, flat_map, join_with_byte, list_all, list_any}
+use Rattle.cmd_kit.proofs.Words.{IfSome, bytes_eq, and_parts, length-map, bytes_eq-Decides, is_file_name, least_depth, start, Input, Output, first_stack}
+use Rattle.cmd_kit.proofs.Words.{IsLine, IsList, line_text, list_text, reads-its-text, Stated, statement_of, Files, ShelfState, SinkState, get_beside}
+use Rattle.cmd_kit.proofs.Words.{get_put, ChainLink, chain_given, chain_link, FollowsOn, IsGoodChain, LinksSay, AreLinksApart, IsBeside, IsUnwritten, RunLink}
+use Rattle.cmd_kit.proofs.Words.{run_link, runs_given, Judged}
 use Rattle.run_chain.specs.Names.{Named, has_clash, is_clash, named, roles_for, with_roles}
-use Rattle.run_chain.proofs.TextLemmas.{reads-its-text}
-use Rattle.statement.specs.Statements.{Stated, statement_of}
-use Rattle.vm_io.specs.Shelf.{Files, ShelfState}
-use Rattle.vm_io.specs.Sink.{SinkState}
-use Rattle.vm_io.proofs.ShelfLemmas.{get_beside, get_put}
-use Rattle.cmd_kit.specs.ChainSteps.{ChainLink, chain_given, chain_link}
-use Rattle.cmd_kit.specs.Completeness.{FollowsOn, IsGoodChain, LinksSay}
 use Rattle.cmd_kit.specs.RunsLaws.{HoldWritten, LinkWritten, LinksWritten, none_yet, one_more, RunsStand, checked_names, claim_of_link, list_of_written}
-use Rattle.cmd_kit.specs.RunsNames.{AreLinksApart, IsBeside, IsUnwritten}
-use Rattle.cmd_kit.specs.RunsSteps.{RunLink, run_link, runs_given}
-use Rattle.cmd_kit.specs.Steps.{Judged}
 use Rattle.cmd_kit.proofs.RunsNames.{is_list, lines_apart, params_unwritten}
 
 -- a name that no link writes stands as it stood

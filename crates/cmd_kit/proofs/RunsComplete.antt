@@ -1,26 +1,12 @@
 -- Runs over good files, walked link by link to their end.
-use Rattle.std.proofs.Common.{◌≡◌, ℕ, ◌+◌, true, false, nat_lt, if◌then◌else◌, List, [], ◌∷◌, length, map, Option, Some, None, refl, sym, ap, subst, ◌∙◌, arith}
-use Rattle.std.specs.FinMap.{get, insert}
-use Rattle.std.specs.List.{AllByRecursion}
-use Rattle.std.proofs.lemmas.Bool.Decides.{nat_tests}
-use Rattle.vm_field.specs.Limits.{most_cycles, most_inputs}
-use Rattle.vm_field.specs.Machine.{State}
+use Rattle.cmd_kit.proofs.Words.{◌≡◌, ℕ, ◌+◌, true, false, nat_lt, if◌then◌else◌, List, [], ◌∷◌, length, map, Option, Some, None, refl, sym, ap, subst, ◌∙◌}
+use Rattle.cmd_kit.proofs.Words.{arith, get, insert, AllByRecursion, nat_tests, most_cycles, most_inputs, State, Given, Count, Files, get_beside, Answer}
+use Rattle.cmd_kit.proofs.Words.{BeginsWith, IsGoodRuns, LinkRuns, LinksRun, MayGoOn, broken, list_steps, with_lines, bad_inputs, IsCourse, AreLinksApart}
+use Rattle.cmd_kit.proofs.Words.{IsBeside, RunLink, given_steps, has_no_cells, is_none_left, left_steps, link_course_steps, link_running_steps, run_link}
+use Rattle.cmd_kit.proofs.Words.{run_link_steps, runs_from, runs_given, runs_steps, ComesWhere, with_inputs, with_params, SourceFile, course, Course, Steps}
+use Rattle.cmd_kit.proofs.Words.{ending}
 use Rattle.run_chain.specs.Names as names
-use Rattle.statement.specs.Inputs.{Given}
-use Rattle.statement.specs.declared.refusal.TextCause.TheVariants.{Count}
-use Rattle.vm_io.specs.Shelf.{Files}
-use Rattle.vm_io.proofs.ShelfLemmas.{get_beside}
 use Rattle.cmd_kit.specs.declared.status.Status.TheVariants as status
-use Rattle.cmd_kit.specs.declared.answer.Answer.{Answer}
-use Rattle.cmd_kit.specs.Completeness.{BeginsWith, IsGoodRuns, LinkRuns, LinksRun, MayGoOn}
-use Rattle.cmd_kit.specs.Links.{broken, list_steps, with_lines}
-use Rattle.cmd_kit.specs.Malformed.{bad_inputs}
-use Rattle.cmd_kit.specs.RunEnds.{IsCourse}
-use Rattle.cmd_kit.specs.RunsNames.{AreLinksApart, IsBeside}
-use Rattle.cmd_kit.specs.RunsSteps.{RunLink, given_steps, has_no_cells, is_none_left, left_steps, link_course_steps, link_running_steps, run_link, run_link_steps, runs_from, runs_given, runs_steps}
-use Rattle.cmd_kit.specs.Serving.{ComesWhere}
-use Rattle.cmd_kit.specs.Starts.{with_inputs, with_params}
-use Rattle.cmd_kit.specs.Steps.{SourceFile, course, Course, Steps, ending}
 use Rattle.cmd_kit.proofs.Courses.{runs_out}
 use Rattle.cmd_kit.proofs.RunsNames.{lines_apart}
 use Rattle.cmd_kit.proofs.Walks as walks

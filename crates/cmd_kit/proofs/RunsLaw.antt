@@ -1,35 +1,16 @@
 -- What stands where `runs` answers `Ok`: its steps, walked link by link.
-use Rattle.std.proofs.Common.{◌≡◌, ℕ, suc, ◌+◌, ◌≤◌, Bool, true, false, nat_lt, if◌then◌else◌, List, [], ◌∷◌, length, map, Option, Some, None, unwrap_or, Result, Ok, Err, refl, sym, ap, subst, ◌∙◌, arith}
-use Rattle.std.specs.FinMap.{get, insert}
-use Rattle.std.specs.List.{AllByRecursion}
-use Rattle.std.proofs.lemmas.Bool.Decides.{nat_tests}
-use Rattle.block_tree.specs.TreeView.{tree_of}
-use Rattle.fill_files.proofs.AcceptedLemmas.{files_accepted}
-use Rattle.rpo_hash.specs.ParamText.{parameters_of}
-use Rattle.vm_field.specs.Limits.{most_cycles, most_inputs, most_source_bytes}
-use Rattle.vm_field.specs.Machine.{State}
-use Rattle.run_chain.specs.Lists.{Links, links_of}
+use Rattle.cmd_kit.proofs.Words.{◌≡◌, ℕ, suc, ◌+◌, ◌≤◌, Bool, true, false, nat_lt, if◌then◌else◌, List, [], ◌∷◌, length, map, Option, Some, None, unwrap_or}
+use Rattle.cmd_kit.proofs.Words.{Result, Ok, Err, refl, sym, ap, subst, ◌∙◌, arith, get, insert, AllByRecursion, nat_tests, tree_of, files_accepted}
+use Rattle.cmd_kit.proofs.Words.{parameters_of, most_cycles, most_inputs, most_source_bytes, State, Links, links_of, Given, inputs_of, TextCause, Count}
+use Rattle.cmd_kit.proofs.Words.{Files, ShelfState, SinkState, with_piece, Status, runs, steps_of, BeginsWith, FileSays, LinkRuns, LinksRun, MayGoOn, broken}
+use Rattle.cmd_kit.proofs.Words.{list_steps, most_list_bytes, with_lines, bad_inputs, IsCourse, halted, trapped, unended, AreLinksApart, RunLink, given_steps}
+use Rattle.cmd_kit.proofs.Words.{has_no_cells, is_none_left, left_steps, link_course_steps, link_running_steps, links_lines, run_link, run_link_steps}
+use Rattle.cmd_kit.proofs.Words.{runs_from, runs_given, runs_steps, ComesWhere, Prints, most_inputs_bytes, most_params_bytes, with_inputs, with_params}
+use Rattle.cmd_kit.proofs.Words.{SourceFile, course, Course, stop, Steps, ending, ends_with}
 use Rattle.run_chain.specs.Names as names
-use Rattle.statement.specs.Inputs.{Given, inputs_of}
-use Rattle.statement.specs.declared.refusal.TextCause.{TextCause}
-use Rattle.statement.specs.declared.refusal.TextCause.TheVariants.{Count}
-use Rattle.vm_io.specs.Shelf.{Files, ShelfState}
-use Rattle.vm_io.specs.Sink.{SinkState, with_piece}
-use Rattle.cmd_kit.specs.declared.status.Status.{Status}
 use Rattle.cmd_kit.specs.declared.status.Status.TheVariants as status
-use Rattle.cmd_kit.specs.Asked.{runs}
-use Rattle.cmd_kit.specs.Commands.{steps_of}
-use Rattle.cmd_kit.specs.Completeness.{BeginsWith, FileSays, LinkRuns, LinksRun, MayGoOn}
-use Rattle.cmd_kit.specs.Links.{broken, list_steps, most_list_bytes, with_lines}
-use Rattle.cmd_kit.specs.Malformed.{bad_inputs}
 use Rattle.cmd_kit.specs.RunEnds as ends
-use Rattle.cmd_kit.specs.RunEnds.{IsCourse, halted, trapped, unended}
 use Rattle.cmd_kit.specs.RunsLaws.{LinkWritten, LinksWritten, none_yet, one_more, RunsStand, AnsweredRunsStand}
-use Rattle.cmd_kit.specs.RunsNames.{AreLinksApart}
-use Rattle.cmd_kit.specs.RunsSteps.{RunLink, given_steps, has_no_cells, is_none_left, left_steps, link_course_steps, link_running_steps, links_lines, run_link, run_link_steps, runs_from, runs_given, runs_steps}
-use Rattle.cmd_kit.specs.Serving.{ComesWhere, Prints}
-use Rattle.cmd_kit.specs.Starts.{most_inputs_bytes, most_params_bytes, with_inputs, with_params}
-use Rattle.cmd_kit.specs.Steps.{SourceFile, course, Course, stop, Steps, ending, ends_with}
 use Rattle.cmd_kit.proofs.EvidenceLaw.{printed_as}
 use Rattle.cmd_kit.proofs.RunsComplete.{StandsAs, all_stand, still_stand}
 use Rattle.cmd_kit.proofs.RunsNames.{lines_apart}

@@ -1,42 +1,22 @@
 -- What `runs` leaves, whatever it answers: the steps of its links, what stands at each place of them, and what is answered there.
-use Rattle.std.proofs.Common.{◌≡◌, ◌⊎◌, ℕ, ◌+◌, ◌≤◌, nat_lt, Bool, true, false, if◌then◌else◌, List, [], ◌∷◌, ◌++◌, append_assoc, codes, length, map, take, take_all, arith, Option, Some, None, unwrap_or, Result, Ok, Err, refl, sym, ap, subst, inl, inr, ◌∙◌}
-use Rattle.std.specs.FinMap.{get, insert}
-use Rattle.std.proofs.lemmas.Bool.Decides.{nat_tests}
-use Rattle.std.proofs.lemmas.List.{length_push}
-use Rattle.block_tree.specs.TreeView.{tree_of}
+use Rattle.cmd_kit.proofs.Words.{◌≡◌, ◌⊎◌, ℕ, ◌+◌, ◌≤◌, nat_lt, Bool, true, false, if◌then◌else◌, List, [], ◌∷◌, ◌++◌, append_assoc, codes, length, map, take}
+use Rattle.cmd_kit.proofs.Words.{take_all, arith, Option, Some, None, unwrap_or, Result, Ok, Err, refl, sym, ap, subst, inl, inr, ◌∙◌, get, insert, nat_tests}
+use Rattle.cmd_kit.proofs.Words.{length_push, tree_of, Public, files_accepted, IsTableFileOf, constants_of, stated_of, ParamError, parameters_of, most_cycles}
+use Rattle.cmd_kit.proofs.Words.{most_inputs, most_source_bytes, State, Links, links_of, Given, inputs_of, TextCause, Count, Files, ShelfState, with_file}
+use Rattle.cmd_kit.proofs.Words.{SinkState, with_piece, Status, Answer, EndsAs, IsRight, steps_of, BeginsWith, FileSays, LinkRuns, broken, broken_line}
+use Rattle.cmd_kit.proofs.Words.{line_of_link, list_steps, most_list_bytes, with_lines, bad_inputs, malformed_line, malformed_text_line, IsCourse, halted}
+use Rattle.cmd_kit.proofs.Words.{trapped, unended, RunLink, given_steps, has_no_cells, is_none_left, left_steps, link_course_steps, link_running_steps}
+use Rattle.cmd_kit.proofs.Words.{links_lines, run_link, run_link_steps, runs_from, runs_given, runs_steps, ComesWhere, Concludes, GivesUp, ServesAs, Works}
+use Rattle.cmd_kit.proofs.Words.{most_inputs_bytes, most_params_bytes, with_inputs, with_params, StatusKind, kind_of, planned, no_command, failed_read}
+use Rattle.cmd_kit.proofs.Words.{failed_write, failed_print, Course, Steps, reading, writing, asking, ending, ends_with, named_line, stop}
 use Rattle.air_kit.specs.Acceptance.{IsAccepted}
-use Rattle.air_kit.specs.declared.trace.Public.{Public}
-use Rattle.fill_files.proofs.AcceptedLemmas.{files_accepted}
-use Rattle.fill_files.specs.RunFiles.{IsTableFileOf}
-use Rattle.rpo_hash.specs.Constants.{constants_of}
-use Rattle.statement.specs.Statements.{stated_of}
 use Rattle.rpo_hash.specs.CauseText.{cause_text}
-use Rattle.rpo_hash.specs.declared.params.ParamError.{ParamError}
-use Rattle.rpo_hash.specs.ParamText.{parameters_of}
-use Rattle.vm_field.specs.Limits.{most_cycles, most_inputs, most_source_bytes}
-use Rattle.vm_field.specs.Machine.{State}
 use Rattle.run_chain.specs.Causes as link_cause
-use Rattle.run_chain.specs.Lists.{Links, links_of}
-use Rattle.statement.specs.Inputs.{Given, inputs_of}
-use Rattle.statement.specs.declared.refusal.TextCause.{TextCause}
-use Rattle.statement.specs.declared.refusal.TextCause.TheVariants.{Count}
-use Rattle.vm_io.specs.Shelf.{Files, ShelfState, with_file}
-use Rattle.vm_io.specs.Sink.{SinkState, with_piece}
-use Rattle.cmd_kit.specs.declared.status.Status.{Status}
 use Rattle.cmd_kit.specs.declared.status.Status.TheVariants as status
-use Rattle.cmd_kit.specs.declared.answer.Answer.{Answer}
-use Rattle.cmd_kit.specs.Commands.{EndsAs, IsRight, steps_of}
-use Rattle.cmd_kit.specs.Completeness.{BeginsWith, FileSays, LinkRuns}
-use Rattle.cmd_kit.specs.Links.{broken, broken_line, line_of_link, list_steps, most_list_bytes, with_lines}
-use Rattle.cmd_kit.specs.Malformed.{bad_inputs, malformed_line, malformed_text_line}
 use Rattle.cmd_kit.specs.RunEnds as ends
-use Rattle.cmd_kit.specs.RunEnds.{IsCourse, halted, trapped, unended}
 use Rattle.cmd_kit.specs.RunsLaws.{LinkWritten, LinksWritten, none_yet, one_more, Reached, no_links, behind_links, torn_file, NextLeft, nothing, in_table, in_statement, RunsLeft, untouched, came, TellsOfFile, missing, too_long, bad_line, bad_text, unread, IsOfRun, no_program, traps, runs_on, Tells, start_stops, file_stops, run_stops, write_stops, breaks, all_done, IsToldAs, RunsLeaveLinks, RunsLeaveWholeLinks, claim_of_link}
-use Rattle.cmd_kit.specs.RunsSteps.{RunLink, given_steps, has_no_cells, is_none_left, left_steps, link_course_steps, link_running_steps, links_lines, run_link, run_link_steps, runs_from, runs_given, runs_steps}
-use Rattle.cmd_kit.specs.Serving.{ComesWhere, Concludes, Ends, FailsAtRead, FailsAtWrite, FrontWritten, GivesUp, IsReading, IsWriting, RefusesFile, ServesAs, Works}
-use Rattle.cmd_kit.specs.Starts.{most_inputs_bytes, most_params_bytes, with_inputs, with_params}
-use Rattle.cmd_kit.specs.Statuses.{StatusKind, kind_of, planned, no_command, failed_read, failed_write, failed_print, no_memory}
-use Rattle.cmd_kit.specs.Steps.{Course, Steps, reading, writing, asking, ending, ends_with, named_line, stop}
+use Rattle.cmd_kit.specs.Serving.{Ends, FailsAtRead, FailsAtWrite, FrontWritten, IsReading, IsWriting, RefusesFile}
+use Rattle.cmd_kit.specs.Statuses.{no_memory}
 use Rattle.cmd_kit.proofs.Along.{Along, at_place}
 use Rattle.cmd_kit.proofs.RunsLaw.{no_cells}
 

@@ -1,17 +1,9 @@
 -- What a list of runs says of its names: no file that is written has another name of the list or of the words.
-use Rattle.std.proofs.Common.{◌≡◌, ◌≢◌, ℕ, Bool, true, false, ◌||◌, List, [], ◌∷◌, map, None, Ok, refl, sym, ◌∙◌, arith}
-use Rattle.std.specs.List.{AllByRecursion, flat_map, list_any}
-use Rattle.std.specs.Str.{bytes_eq}
-use Rattle.std.proofs.lemmas.Bool.{false≢true}
-use Rattle.std.proofs.lemmas.Slice.Eq.{bytes_eq-Decides}
+use Rattle.cmd_kit.proofs.Words.{◌≡◌, ◌≢◌, ℕ, Bool, true, false, ◌||◌, List, [], ◌∷◌, map, None, Ok, refl, sym, ◌∙◌, arith, AllByRecursion, flat_map}
+use Rattle.cmd_kit.proofs.Words.{list_any, bytes_eq, false≢true, bytes_eq-Decides, Input, Output, IsLine, IsList, links_of, reads-its-text, AreLinksApart}
+use Rattle.cmd_kit.proofs.Words.{IsBeside, IsUnwritten, run_link, runs_given}
 use Rattle.run_chain.specs.declared.naming.Role.{Role}
-use Rattle.run_chain.specs.declared.naming.Role.TheVariants.{Input, Output}
-use Rattle.run_chain.specs.ListText.{IsLine, IsList}
-use Rattle.run_chain.specs.Lists.{links_of}
 use Rattle.run_chain.specs.Names.{Named, has_clash, is_clash, named, roles_for, with_roles}
-use Rattle.run_chain.proofs.TextLemmas.{reads-its-text}
-use Rattle.cmd_kit.specs.RunsNames.{AreLinksApart, IsBeside, IsUnwritten}
-use Rattle.cmd_kit.specs.RunsSteps.{run_link, runs_given}
 
 -- neither of two tests is met
 neither : (a b : Bool) → a || b ≡ false → (a ≡ false) × (b ≡ false)

@@ -1,17 +1,11 @@
 -- What a line of `runs` that begins with a link's number tells of the links before it.
-use Rattle.std.proofs.Common.{◌≡◌, ℕ, ◌+◌, ◌^◌, ◌<◌, ◌≤◌, true, List, [], ◌∷◌, ◌++◌, append_assoc, codes, decimal, get_or, length, length-append, Option, Some, None, refl, sym, ap, inl, ◌∙◌, arith}
-use Rattle.std.specs.Str.{all_ascii_digits}
-use Rattle.std.proofs.lemmas.List.{append_cancel_left, length-map}
+use Rattle.cmd_kit.proofs.Words.{◌≡◌, ℕ, ◌+◌, ◌^◌, ◌<◌, ◌≤◌, true, List, [], ◌∷◌, ◌++◌, append_assoc, codes, decimal, get_or, length, length-append, Option}
+use Rattle.cmd_kit.proofs.Words.{Some, None, refl, sym, ap, inl, ◌∙◌, arith, all_ascii_digits, append_cancel_left, length-map, Files, ShelfState, SinkState}
+use Rattle.cmd_kit.proofs.Words.{with_piece, Status, line_of_link, RunLink, run_link, kind_of, planned}
 use Rattle.std.proofs.lemmas.Fmt.{decimal_injective, digits_decimal}
 use Rattle.std.proofs.lemmas.Str.Parse.{IsNumeralModel, numerals_by_value, tells_all_ascii_digits}
 use Rattle.std.specs.Str.Parse.{digits_value}
-use Rattle.vm_io.specs.Shelf.{Files, ShelfState}
-use Rattle.vm_io.specs.Sink.{SinkState, with_piece}
-use Rattle.cmd_kit.specs.declared.status.Status.{Status}
-use Rattle.cmd_kit.specs.Links.{line_of_link}
 use Rattle.cmd_kit.specs.RunsLaws.{Reached, behind_links, RunsLeft, came, TellsOfFile, missing, too_long, bad_line, bad_text, unread, Tells, start_stops, file_stops, run_stops, write_stops, breaks, all_done, StandBefore, RunsTellTheLink}
-use Rattle.cmd_kit.specs.RunsSteps.{RunLink, run_link}
-use Rattle.cmd_kit.specs.Statuses.{kind_of, planned}
 use Rattle.cmd_kit.proofs.RunsLeave.{runs_leave_links, told_line}
 use Rattle.cmd_kit.proofs.RunsNames.{is_list}
 

@@ -1,21 +1,14 @@
 -- How the steps of a command go together: what each stop leaves, and a file read or written in front of further steps.
-use Rattle.std.proofs.Common.{◌≡◌, ℕ, ◌<◌, ◌≤◌, List, codes, length, replicate, ◌+◌, arith, Option, Some, None, refl, sym, subst, inl, inr, ◌∙◌}
-use Rattle.std.specs.Option.{IfSome, IsSomeAnd}
-use Rattle.std.proofs.lemmas.List.{length-replicate}
-use Rattle.std.specs.FinMap.{get}
-use Rattle.vm_field.specs.Limits.{most_name_bytes}
+use Rattle.cmd_kit.proofs.Words.{◌≡◌, ℕ, ◌<◌, ◌≤◌, List, codes, length, replicate, ◌+◌, arith, Option, Some, None, refl, sym, subst, inl, inr, ◌∙◌, IfSome}
+use Rattle.cmd_kit.proofs.Words.{IsSomeAnd, length-replicate, get, most_name_bytes, Files, ShelfState, with_file, kept_whole, Status, Answer, StatusKind}
+use Rattle.cmd_kit.proofs.Words.{planned, failed_read, failed_write, kind_of, End, stop, Finding, Question, Right, Steps, reading, writing, asking, ending}
+use Rattle.cmd_kit.proofs.Words.{ends_with, named_line, Finds, IsRight, EndsAs, past_read, past_write, past_finding, ComesWhere, Concludes, Works, GivesUp}
 use Rattle.vm_io.specs.Count.{Rose}
-use Rattle.vm_io.specs.Shelf.{Files, ShelfState, Told, Reads, ReadFails, WriteFails, with_failed_name, with_file}
-use Rattle.vm_io.proofs.ShelfLemmas.{kept_whole}
-use Rattle.cmd_kit.specs.declared.status.Status.{Status}
+use Rattle.vm_io.specs.Shelf.{Told, Reads, ReadFails, WriteFails, with_failed_name}
 use Rattle.cmd_kit.specs.declared.status.Status.TheVariants as status
-use Rattle.cmd_kit.specs.declared.answer.Answer.{Answer}
 use Rattle.cmd_kit.specs.declared.outcome.Outcome.{Outcome}
 use Rattle.cmd_kit.specs.declared.outcome.Outcome.TheVariants as outcome
-use Rattle.cmd_kit.specs.Statuses.{StatusKind, planned, failed_read, failed_write, kind_of}
-use Rattle.cmd_kit.specs.Steps.{End, stop, Finding, Question, Right, Steps, reading, writing, asking, ending, ends_with, named_line}
-use Rattle.cmd_kit.specs.Commands.{Finds, IsRight, EndsAs}
-use Rattle.cmd_kit.specs.Serving.{none_yet, past_read, past_write, past_finding, ComesWhere, Concludes, NoFault, Ends, Stops, FailsAtRead, FailsAtWrite, Works, GivesUp}
+use Rattle.cmd_kit.specs.Serving.{none_yet, NoFault, Ends, Stops, FailsAtRead, FailsAtWrite}
 use Rattle.cmd_kit.specs.Outcomes.{IsAnswerOfEnd, ComesTo, EndsIn, Continues, SaysStatus}
 
 no_fault : (s : ShelfState) → NoFault s s

@@ -1,24 +1,11 @@
 -- `check --source` over good files, walked step by step to its end.
-use Rattle.std.proofs.Common.{◌≡◌, ℕ, List, Option, Some, Ok, sym, ap, subst, ◌∙◌}
-use Rattle.std.specs.Option.{option_map}
+use Rattle.cmd_kit.proofs.Words.{◌≡◌, ℕ, List, Option, Some, Ok, sym, ap, subst, ◌∙◌, option_map, tree_of, Program, one_program, u64_library, Stated, Trace}
+use Rattle.cmd_kit.proofs.Words.{Files, Answer, IsBuild, ran_line, building_steps, built_steps, check_source_steps, with_source_steps, IsAcceptedFor}
+use Rattle.cmd_kit.proofs.Words.{IsGoodSourceCheck, ComesWhere, AssemblesFiles, with_params, with_statement, with_trace, statement_steps, trace_steps}
+use Rattle.cmd_kit.proofs.Words.{SourceFile, sourced, Build, Steps}
 use Rattle.block_tree.specs.Trees.{tree_digest}
-use Rattle.block_tree.specs.TreeView.{tree_of}
-use Rattle.block_tree.specs.declared.program.Program.{Program}
-use Rattle.masm_link.proofs.OneAnswer.{one_program}
-use Rattle.std_u64.specs.Libraries.{u64_library}
-use Rattle.statement.specs.Statements.{Stated}
-use Rattle.air_kit.specs.declared.trace.Trace.{Trace}
-use Rattle.vm_io.specs.Shelf.{Files}
 use Rattle.cmd_kit.specs.declared.status.Status.TheVariants as status
-use Rattle.cmd_kit.specs.declared.answer.Answer.{Answer}
 use Rattle.cmd_kit.specs.CheckSourceEnds as ends
-use Rattle.cmd_kit.specs.CheckSourceEnds.{IsBuild, ran_line}
-use Rattle.cmd_kit.specs.CheckSourceSteps.{building_steps, built_steps, check_source_steps, with_source_steps}
-use Rattle.cmd_kit.specs.Completeness.{IsAcceptedFor, IsGoodSourceCheck}
-use Rattle.cmd_kit.specs.Serving.{ComesWhere}
-use Rattle.cmd_kit.specs.SourceEnds.{AssemblesFiles}
-use Rattle.cmd_kit.specs.Starts.{with_params, with_statement, with_trace, statement_steps, trace_steps}
-use Rattle.cmd_kit.specs.Steps.{SourceFile, sourced, Build, Steps}
 use Rattle.cmd_kit.proofs.Courses.{bad_or_program}
 use Rattle.cmd_kit.proofs.Held.{held_ok}
 use Rattle.cmd_kit.proofs.KernelReads.{kernel_read}

@@ -1,34 +1,16 @@
 -- What stands where `check --source` answers `Ok`: its steps, walked one after the other.
-use Rattle.std.proofs.Common.{◌≡◌, ℕ, List, Option, Some, Ok, subst}
-use Rattle.std.specs.Option.{option_map}
-use Rattle.rpo_hash.specs.ParamText.{parameters_of}
+use Rattle.cmd_kit.proofs.Words.{◌≡◌, ℕ, List, Option, Some, Ok, subst, option_map, parameters_of, tree_of, Program, u64_library, SourceEvidence, Ran}
+use Rattle.cmd_kit.proofs.Words.{ClashFile, ClashNode, ran-is-source, constants_of, Stated, statement_of, Trace, trace_of, Files, ShelfState, SinkState}
+use Rattle.cmd_kit.proofs.Words.{with_piece, check_source, IsBuild, IsSourceEvidenceFor, accepted_source_line, ran_line, building_steps, built_steps}
+use Rattle.cmd_kit.proofs.Words.{check_source_steps, with_source_steps, steps_of, ComesWhere, Prints, AssemblesFiles, statement_steps, trace_steps}
+use Rattle.cmd_kit.proofs.Words.{SourceFile, sourced, Build, built, Steps, ends_with}
 use Rattle.block_tree.specs.KnownTrees.{HasNoOpaque}
 use Rattle.block_tree.specs.Trees.{Tree}
-use Rattle.block_tree.specs.TreeView.{tree_of}
-use Rattle.block_tree.specs.declared.program.Program.{Program}
 use Rattle.masm_link.proofs.WholeTrees.{assembled-trees}
-use Rattle.std_u64.specs.Libraries.{u64_library}
 use Rattle.source_check.specs.SourceLaws.{HasNoDyn}
-use Rattle.source_check.specs.declared.evidence.SourceEvidence.{SourceEvidence}
-use Rattle.source_check.specs.declared.evidence.SourceEvidence.TheVariants.{Ran, ClashFile, ClashNode}
-use Rattle.source_check.proofs.SourceLemmas.{ran-is-source}
-use Rattle.rpo_hash.specs.Constants.{constants_of}
-use Rattle.statement.specs.Statements.{Stated, statement_of}
-use Rattle.air_kit.specs.declared.trace.Trace.{Trace}
-use Rattle.table_file.specs.Files.{trace_of}
-use Rattle.vm_io.specs.Shelf.{Files, ShelfState}
-use Rattle.vm_io.specs.Sink.{SinkState, with_piece}
 use Rattle.cmd_kit.specs.declared.status.Status.TheVariants as status
-use Rattle.cmd_kit.specs.Asked.{check_source}
 use Rattle.cmd_kit.specs.CheckSourceEnds as ends
-use Rattle.cmd_kit.specs.CheckSourceEnds.{IsBuild, IsSourceEvidenceFor, accepted_source_line, ran_line}
-use Rattle.cmd_kit.specs.CheckSourceSteps.{building_steps, built_steps, check_source_steps, with_source_steps}
-use Rattle.cmd_kit.specs.Commands.{steps_of}
-use Rattle.cmd_kit.specs.Serving.{ComesWhere, Prints}
-use Rattle.cmd_kit.specs.SourceEnds.{AssemblesFiles}
 use Rattle.cmd_kit.specs.SourceLaws.{AcceptedSourceRan, RanTree, SourceStands}
-use Rattle.cmd_kit.specs.Starts.{statement_steps, trace_steps}
-use Rattle.cmd_kit.specs.Steps.{SourceFile, sourced, Build, built, Steps, ends_with}
 use Rattle.cmd_kit.proofs.EvidenceLaw.{claim_said, printed_as, trace_said}
 use Rattle.cmd_kit.proofs.Held.{was_held}
 use Rattle.cmd_kit.proofs.RunLaw.{kernel_said}

@@ -1,17 +1,11 @@
 -- What is accepted for a claim is accepted however the claim lies in memory, and is not refused.
-use Rattle.std.proofs.Common.{◌≡◌, refl, sym, ap, subst, ◌∙◌}
-use Rattle.rpo_hash.specs.Constants.{constants_of}
+use Rattle.cmd_kit.proofs.Words.{◌≡◌, refl, sym, ap, subst, ◌∙◌, constants_of, Stated, Public, Trace, IsWhy, OneVerdict}
 use Rattle.statement.specs.Statements as statements
-use Rattle.statement.specs.Statements.{Stated}
 use Rattle.air_kit.specs.Acceptance.{AreZero, IsAccepted, asked_on, given_on}
 use Rattle.buses.specs.Counts.{AreAlike}
 use Rattle.air_kit.specs.Traces as traces
-use Rattle.air_kit.specs.declared.trace.Public.{Public}
-use Rattle.air_kit.specs.declared.trace.Trace.{Trace}
 use Rattle.checker.specs.declared.refusal.Refused.{Refused}
 use Rattle.checker.specs.declared.refusal.Refused.TheVariants as why
-use Rattle.cmd_kit.specs.CheckEnds.{IsWhy}
-use Rattle.cmd_kit.specs.Completeness.{OneVerdict}
 
 -- a trace that is accepted for what is claimed is accepted however the claim lies in memory
 same_accepted : (p q : Public) (t : Trace) → constants_of p.params ≡ constants_of q.params

@@ -1,15 +1,9 @@
 -- Steps that ended with an answer, walked one after the other over told files.
-use Rattle.std.proofs.Common.{◌≡◌, ◌⊎◌, ℕ, ◌<◌, ◌≤◌, List, length, Option, Some, None, Result, Ok, Err, refl, sym, ap, subst, inl, inr, ◌∙◌, arith}
-use Rattle.std.specs.FinMap.{get, insert}
-use Rattle.vm_io.specs.Shelf.{Files, with_file}
-use Rattle.cmd_kit.specs.declared.status.Status.{Status}
+use Rattle.cmd_kit.proofs.Words.{◌≡◌, ◌⊎◌, ℕ, ◌<◌, ◌≤◌, List, length, Option, Some, None, Result, Ok, Err, refl, sym, ap, subst, inl, inr, ◌∙◌, arith, get}
+use Rattle.cmd_kit.proofs.Words.{insert, Files, with_file, Status, Answer, End, Right, Question, Finding, Steps, reading, writing, asking, ending, ends_with}
+use Rattle.cmd_kit.proofs.Words.{ParamError, EndsAs, Finds, IsRight, with_params, Passes, past_read, past_write, past_finding, ComesWhere, Concludes}
 use Rattle.cmd_kit.specs.declared.status.Status.TheVariants as status
-use Rattle.cmd_kit.specs.declared.answer.Answer.{Answer}
-use Rattle.cmd_kit.specs.Steps.{End, Right, Question, Finding, Steps, reading, writing, asking, ending, ends_with}
-use Rattle.rpo_hash.specs.declared.params.ParamError.{ParamError}
-use Rattle.cmd_kit.specs.Commands.{EndsAs, Finds, IsRight}
-use Rattle.cmd_kit.specs.Starts.{with_params}
-use Rattle.cmd_kit.specs.Serving.{Holds, Passes, none_yet, past_read, past_write, past_finding, ComesWhere, Concludes, RefusesFile}
+use Rattle.cmd_kit.specs.Serving.{Holds, none_yet, RefusesFile}
 
 -- one step was taken, and the rest lead on
 abbrev pub Beyond : (Steps → Option Files → Type 0) → Steps → Files → Type 0

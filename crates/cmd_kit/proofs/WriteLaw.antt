@@ -1,38 +1,22 @@
 -- Which files each command writes.
-use Rattle.std.proofs.Common.{◌≡◌, ℕ, suc, ◌+◌, Bool, true, false, if◌then◌else◌, List, [], ◌∷◌, ◌++◌, length, rules, map, Option, Some, None, refl, sym, subst, Contains, Result, Ok, Err, arith}
-use Rattle.std.specs.List.{AllByRecursion}
-use Rattle.std.specs.Str.{bytes_eq}
+use Rattle.cmd_kit.proofs.Words.{◌≡◌, ℕ, suc, ◌+◌, Bool, true, false, if◌then◌else◌, List, [], ◌∷◌, ◌++◌, length, rules, map, Option, Some, None, refl, sym}
+use Rattle.cmd_kit.proofs.Words.{subst, Contains, Result, Ok, Err, arith, AllByRecursion, bytes_eq, tree_of, ParamError, parameters_of, walk_tree, Links}
+use Rattle.cmd_kit.proofs.Words.{links_of, Given, inputs_of, Stated, statement_of, Trace, trace_of, FileError, TextCause, Files, MadeNames, Outputs, hash}
+use Rattle.cmd_kit.proofs.Words.{assemble, check, check_source, make, chain, runs, member, Build, Course, Verdict, SourceFile, Judged, assembly, stop, Steps}
+use Rattle.cmd_kit.proofs.Words.{asking, ending, accepted, built, ran, checked, with_params, with_inputs, with_trace, with_statement, params_steps}
+use Rattle.cmd_kit.proofs.Words.{source_steps, kernel_steps, inputs_steps, trace_steps, statement_steps, hash_steps, numbers_steps, assemble_steps, run_steps}
+use Rattle.cmd_kit.proofs.Words.{running_steps, course_steps, check_steps, judging_steps, found_steps, building_steps, built_steps, check_source_steps}
+use Rattle.cmd_kit.proofs.Words.{held_steps, sourced_steps, with_source_steps, other_program_line, ran_line, make_steps, making_steps, made_course_steps}
+use Rattle.cmd_kit.proofs.Words.{member_line, member_steps, walked_steps, broken, list_steps, with_lines, ChainLink, chain_from, chain_given, chain_link}
+use Rattle.cmd_kit.proofs.Words.{chain_steps, claimed_steps, follows_on, judged_steps, link_steps, RunLink, given_steps, has_no_cells, is_none_left}
+use Rattle.cmd_kit.proofs.Words.{left_steps, link_course_steps, link_running_steps, run_link, run_link_steps, runs_from, runs_given, runs_steps}
 use Rattle.block_tree.specs.Trees.{Tree, tree_digest}
-use Rattle.block_tree.specs.TreeView.{tree_of}
-use Rattle.rpo_hash.specs.declared.params.ParamError.{ParamError}
-use Rattle.rpo_hash.specs.ParamText.{parameters_of}
-use Rattle.merkle_lib.specs.Programs.{walk_tree}
-use Rattle.run_chain.specs.Lists.{Links, links_of}
 use Rattle.run_chain.specs.Names as names
-use Rattle.statement.specs.Inputs.{Given, inputs_of}
-use Rattle.statement.specs.Statements.{Stated, statement_of}
-use Rattle.air_kit.specs.declared.trace.Trace.{Trace}
-use Rattle.table_file.specs.Files.{trace_of}
-use Rattle.table_file.specs.declared.cause.FileError.{FileError}
 use Rattle.table_file.specs.declared.cause.FileError.TheVariants as file_error
 use Rattle.table_file.specs.declared.cause.FileError.TheVariants.{Bad}
-use Rattle.statement.specs.declared.refusal.TextCause.{TextCause}
-use Rattle.vm_io.specs.Shelf.{Files}
-use Rattle.cmd_kit.specs.Asked.{MadeNames, Outputs, nothing, hash, assemble, run, check, check_source, make, chain, runs, member}
-use Rattle.cmd_kit.specs.Steps.{Build, Course, Verdict, SourceFile, Judged, assembly, stop, Steps, asking, ending, accepted, refused, built, unbuilt, ran, stopped, checked}
-use Rattle.cmd_kit.specs.Starts.{with_params, with_inputs, with_trace, with_statement, params_steps, source_steps, kernel_steps, inputs_steps, trace_steps, statement_steps}
-use Rattle.cmd_kit.specs.HashSteps.{hash_steps, numbers_steps}
-use Rattle.cmd_kit.specs.AssembleSteps.{assemble_steps}
-use Rattle.cmd_kit.specs.RunSteps.{run_steps, running_steps, course_steps}
-use Rattle.cmd_kit.specs.CheckSteps.{check_steps, judging_steps, found_steps}
-use Rattle.cmd_kit.specs.CheckSourceSteps.{building_steps, built_steps, check_source_steps, held_steps, sourced_steps, with_source_steps}
-use Rattle.cmd_kit.specs.CheckSourceEnds.{other_program_line, ran_line}
+use Rattle.cmd_kit.specs.Asked.{nothing, run}
+use Rattle.cmd_kit.specs.Steps.{refused, unbuilt, stopped}
 use Rattle.cmd_kit.specs.declared.status.Status.TheVariants as status
-use Rattle.cmd_kit.specs.MakeSteps.{make_steps, making_steps, made_course_steps}
-use Rattle.cmd_kit.specs.MemberSteps.{member_line, member_steps, walked_steps}
-use Rattle.cmd_kit.specs.Links.{broken, list_steps, with_lines}
-use Rattle.cmd_kit.specs.ChainSteps.{ChainLink, chain_from, chain_given, chain_link, chain_steps, claimed_steps, follows_on, judged_steps, link_steps}
-use Rattle.cmd_kit.specs.RunsSteps.{RunLink, given_steps, has_no_cells, is_none_left, left_steps, link_course_steps, link_running_steps, run_link, run_link_steps, runs_from, runs_given, runs_steps}
 use Rattle.cmd_kit.specs.Laws.{WritesOnly, CommandsWrite, listed_outputs, names_of_outputs, outputs_of}
 
 some_steps : (a b : Steps) → Some a ≡ Some b → a ≡ b

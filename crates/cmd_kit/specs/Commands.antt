@@ -12,12 +12,13 @@ use Rattle.cmd_kit.specs.MakeSteps.{make_steps}
 use Rattle.cmd_kit.specs.MemberSteps.{member_steps}
 use Rattle.cmd_kit.specs.ChainSteps.{chain_steps}
 use Rattle.cmd_kit.specs.RunsSteps.{runs_steps}
-use Rattle.cmd_kit.specs.Steps.{End, stop, assembly, telling, telling_source, Right, exactly, tables_of, statement_of, evidence_for, source_evidence_for, chain_evidence, Question, checked, sourced, course, Finding, Steps, ends_with}
+use Rattle.cmd_kit.specs.Steps.{End, stop, assembly, telling, telling_source, Right, exactly, tables_of, statement_of, evidence_for, source_evidence_for, chain_evidence, Question, checked, sourced, course, refusal, Finding, Steps, ends_with}
 use Rattle.cmd_kit.specs.CheckEnds.{IsEvidenceText, IsVerdictFor, TellsEvidence}
 use Rattle.cmd_kit.specs.CheckSourceEnds.{IsBuild, IsSourceEvidenceText, TellsSourceEvidence}
 use Rattle.cmd_kit.specs.ChainEnds.{IsChainText}
 use Rattle.cmd_kit.specs.AssembleEnds.{AnswersAssembly}
 use Rattle.cmd_kit.specs.RunEnds.{IsCourse}
+use Rattle.cmd_kit.specs.SourceEnds.{IsRefusalOf}
 use Rattle.fill_files.specs.RunFiles.{IsTableFileOf, IsStatementFileOf}
 
 -- The steps of each command; words of no command have none.
@@ -55,3 +56,4 @@ abbrev pub Finds : (question : Question) → Finding question → Type 0
 Finds (checked constants claim trace) verdict = IsVerdictFor constants claim trace verdict
 Finds (sourced constants source kernel) found = IsBuild constants source kernel found
 Finds (course constants source kernel given limit) found = IsCourse constants source kernel given limit found
+Finds (refusal source kernel) found = IsRefusalOf source kernel found

@@ -7,7 +7,7 @@ use Rattle.vm_ops.specs.declared.cause.Cause.{Cause}
 use Rattle.vm_ops.specs.Causes.{text_of_cause}
 use Rattle.block_tree.specs.declared.program.Program.{Program}
 use Rattle.block_tree.specs.Execution as run
-use Rattle.block_tree.specs.Execution.{Outcome, Trap, OutOfCycles, execution}
+use Rattle.block_tree.specs.Execution.{IsCutOff, Outcome, Trap, execution}
 use Rattle.block_tree.specs.TreeView.{tree_of}
 use Rattle.masm_link.specs.declared.refusal.AsmCause.{AsmCause}
 use Rattle.masm_link.specs.declared.refusal.AsmError.TheVariants.{Bad}
@@ -37,7 +37,7 @@ limit_line limit = codes "out of cycles " ++ decimal limit ++ codes "\n"
 pub data IsHalt (constants : List ℕ) (program : Program) (given : Given) (limit : ℕ) : Answer → Type 0 where
   trapped : (clock : ℕ) (cause : Cause) → outcome_of constants program given limit ≡ Trap clock cause
       → IsHalt constants program given limit (ends_with status.Trap (trap_line clock cause))
-  unended : outcome_of constants program given limit ≡ OutOfCycles
+  unended : IsCutOff (outcome_of constants program given limit)
       → IsHalt constants program given limit (ends_with status.OutOfCycles (limit_line limit))
 
 -- What a source comes to that is to be run: it is refused, at the place of the first refusal, or its program halts, or it runs to its end.

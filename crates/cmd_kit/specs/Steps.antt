@@ -1,5 +1,5 @@
 -- The steps of a command: the files that it reads and writes, one after the other, and how it ends.
-use Rattle.std.specs.Prelude.{ℕ, List, ◌++◌, codes, Option}
+use Rattle.std.specs.Prelude.{ℕ, Bool, List, ◌++◌, codes, Option}
 use Rattle.vm_field.specs.Machine.{State}
 use Rattle.block_tree.specs.Execution as run
 use Rattle.block_tree.specs.Trees.{Tree}
@@ -10,11 +10,19 @@ use Rattle.statement.specs.Inputs.{Given}
 use Rattle.statement.specs.Statements.{Stated}
 use Rattle.air_kit.specs.declared.trace.Trace.{Trace}
 use Rattle.checker.specs.declared.refusal.Refused.{Refused}
+use Rattle.masm_link.specs.declared.refusal.AsmCause.{AsmCause}
 
 -- a file of source: its name and its bytes
 pub record SourceFile : Type 0 where
   pub name : List ℕ
   pub text : List ℕ
+
+-- where a source or its kernel is refused, and why
+pub record SourceRefusal : Type 0 where
+  pub in_kernel : Bool
+  pub line : ℕ
+  pub column : ℕ
+  pub cause : AsmCause
 
 -- What the files of a command lead to. Each command has its own kind of end.
 pub data End : Type 0 where
@@ -55,6 +63,8 @@ pub data Question : Type 0 where
   sourced : (constants : List ℕ) (source : SourceFile) (kernel : Option SourceFile) → Question
   -- how a source runs that is assembled under these constants, with a kernel where there is one, on these inputs within so many cycles
   course : (constants : List ℕ) (source : SourceFile) (kernel : Option SourceFile) (given : Given) (limit : ℕ) → Question
+  -- whether a source is refused, with a kernel where there is one; the constants do not decide it
+  refusal : (source : SourceFile) (kernel : Option SourceFile) → Question
 
 -- what is found of a trace
 pub data Verdict : Type 0 where
@@ -79,6 +89,7 @@ abbrev pub Finding : Question → Type 0
 Finding (checked constants claim trace) = Verdict
 Finding (sourced constants source kernel) = Build
 Finding (course constants source kernel given limit) = Course
+Finding (refusal source kernel) = Option SourceRefusal
 
 -- What was read, written and found decides how the steps go on.
 pub data Steps : Type 0 where

@@ -70,8 +70,12 @@ pub fn refused_source(alloc: Global, name: &str, line: u32, column: u32, cause: 
     )
 }
 
-// `source NAME LINE COLUMN CAUSE`
-fn source_text(
+/// `source NAME LINE COLUMN CAUSE`
+///
+/// # Errors
+///
+/// `Memory` where the system gave none for the line.
+pub fn source_text(
     alloc: Global,
     name: &str,
     line: u32,

@@ -16,3 +16,4 @@ pub mod PlainParts
 pub mod PlainTexts
 pub mod Meant
 pub mod TextLemmas
+pub mod AsciiNames

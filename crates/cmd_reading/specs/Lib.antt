@@ -1,3 +1,4 @@
 pub mod Form
 pub mod FormApp
 pub mod Meaning
+pub mod Values

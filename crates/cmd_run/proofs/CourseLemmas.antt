@@ -1,13 +1,9 @@
 -- From a program that runs or halts, and a source that is refused, to the course of a source.
 use Rattle.std.proofs.Common.{◌≡◌, ℕ, Bool, List, Option, Result, Ok, Err, IfErr, refl, subst, sym}
-use Rattle.block_tree.specs.declared.program.Program.{Program}
-use Rattle.statement.specs.Inputs.{Given}
+use Rattle.cmd_run.proofs.Words.{Program, Given, Outcome, Halts, Stopped, SaysStatus, IsCourse, IsHalt, halted, trapped, unended}
 use Rattle.cmd_run.specs.declared.course.Course as held
-use Rattle.cmd_kit.specs.declared.outcome.Outcome.{Outcome}
 use Rattle.cmd_kit.specs.declared.outcome.Outcome.TheVariants as outcome
 use Rattle.cmd_kit.specs.declared.status.Status.TheVariants as status
-use Rattle.cmd_run.specs.Courses.{Halts, Stopped}
-use Rattle.cmd_kit.specs.Outcomes.{SaysStatus}
 use Rattle.masm_link.specs.declared.refusal.AsmCause.{AsmCause}
 use Rattle.masm_link.specs.declared.refusal.AsmError.TheVariants.{Bad}
 use Rattle.cmd_kit.specs.declared.status.Status.{Status}
@@ -15,7 +11,6 @@ use Rattle.cmd_kit.specs.declared.answer.Answer.{Answer}
 use Rattle.cmd_kit.specs.SourceEnds.{AssemblesFiles, name_of_place, source_line}
 use Rattle.cmd_kit.specs.Statuses.{kind_of, planned}
 use Rattle.cmd_kit.specs.RunEnds as ends
-use Rattle.cmd_kit.specs.RunEnds.{IsCourse, IsHalt, halted, trapped, unended}
 use Rattle.cmd_kit.specs.Steps.{SourceFile, stopped, ends_with}
 
 planned_halt : (constants : List ℕ) (program : Program) (given : Given) (limit : ℕ) (a : Answer) → IsHalt constants program given limit a

@@ -2,3 +2,4 @@ pub mod CourseLemmas
 pub mod LinkLemmas
 pub mod RunLemmas
 pub mod RunReads
+pub mod Words

@@ -4,33 +4,21 @@ use Rattle.std.proofs.lemmas.List.{drop_all, length-map}
 use Rattle.std.proofs.lemmas.Bool.Decides.{nat_tests}
 use Rattle.std.specs.Option.{option_copied, option_map}
 use Rattle.std.specs.Result.{IfErr, IfOk}
-use Rattle.rpo_hash.specs.Constants.{constants_of}
-use Rattle.rpo_hash.specs.declared.params.Params.{Params}
-use Rattle.block_tree.specs.TreeView.{tree_of}
-use Rattle.block_tree.specs.declared.program.Program.{Program}
-use Rattle.vm_field.specs.Limits.{most_cycles, most_inputs}
+use Rattle.cmd_run.proofs.Words.{constants_of, Params, tree_of, Program, most_cycles, most_inputs, state_of, Run, Given, ShelfState, Outcome, Outputs}
+use Rattle.cmd_run.proofs.Words.{Continues, EndsIn, EndsThere, Loads, SaysStatus, ended, Came, Stopped}
 use Rattle.vm_field.specs.declared.lists.Felts.{Felts}
-use Rattle.vm_state.specs.Views.{state_of}
 use Rattle.fill_files.specs.RunFiles.{IsFileOfRun, IsStatementFileOf, claim_of_run}
-use Rattle.processor.specs.declared.run.Run.{Run}
 use Rattle.run_chain.specs.Lists.{Links, links_of}
-use Rattle.statement.specs.Inputs.{Given}
 use Rattle.statement.specs.declared.refusal.TextCause.TheVariants.{Count}
-use Rattle.vm_io.specs.Shelf.{ShelfState}
 use Rattle.cmd_run.specs.declared.course.Course as held
-use Rattle.cmd_kit.specs.declared.outcome.Outcome.{Outcome}
 use Rattle.cmd_kit.specs.declared.outcome.Outcome.TheVariants as outcome
 use Rattle.cmd_kit.specs.declared.status.Status.TheVariants as status
-use Rattle.cmd_kit.specs.Asked.{Outputs}
 use Rattle.cmd_kit.specs.Links.{broken, broken_line, line_of_link, list_steps, most_list_bytes, with_lines}
 use Rattle.cmd_kit.specs.Malformed.{bad_inputs, malformed_text_line}
-use Rattle.cmd_kit.specs.Outcomes.{Continues, EndsIn, EndsThere, Loads, SaysStatus}
-use Rattle.cmd_kit.specs.RunEnds.{ended}
 use Rattle.cmd_kit.specs.RunsSteps.{RunLink, given_steps, has_no_cells, is_none_left, left_steps, link_course_steps, link_running_steps, links_lines, run_link, run_link_steps, runs_from, runs_given, runs_steps, saved_steps}
 use Rattle.cmd_kit.specs.Starts.{params_steps, source_steps, inputs_steps}
 use Rattle.cmd_kit.specs.Steps.{SourceFile, course, ran, stop, stopped, Steps, reading, ending}
 use Rattle.cmd_kit.proofs.ServingLemmas.{goes_past_finding, same_again, says_comes, work_ends}
-use Rattle.cmd_run.specs.Courses.{Came, Stopped}
 use Rattle.cmd_run.specs.Linking.{EndsSaving, EndsTwo, LinkSays, SavesLink, SavesTwo}
 
 -- what holds whatever is answered

@@ -1,26 +1,15 @@
 -- From the course of a source to the end of `run`.
 use Rattle.std.proofs.Common.{◌≡◌, ℕ, List, Option, Some, refl, subst}
-use Rattle.rpo_hash.specs.Constants.{constants_of}
-use Rattle.rpo_hash.specs.declared.params.Params.{Params}
+use Rattle.cmd_run.proofs.Words.{constants_of, Params, tree_of, Program, state_of, Run, Given, ShelfState, Outcome, Outputs, Came, Stopped, EndsIn, Continues}
+use Rattle.cmd_run.proofs.Words.{SaysStatus, ended, run_lines}
 use Rattle.block_tree.specs.Trees.{Tree, tree_digest}
-use Rattle.block_tree.specs.TreeView.{tree_of}
-use Rattle.block_tree.specs.declared.program.Program.{Program}
-use Rattle.vm_state.specs.Views.{state_of}
-use Rattle.processor.specs.declared.run.Run.{Run}
-use Rattle.statement.specs.Inputs.{Given}
 use Rattle.fill_files.specs.RunFiles.{IsFileOfRun, IsStatementFileOf, claim_of_run, claim_with}
-use Rattle.vm_io.specs.Shelf.{ShelfState}
 use Rattle.cmd_run.specs.declared.course.Course as held
-use Rattle.cmd_kit.specs.declared.outcome.Outcome.{Outcome}
 use Rattle.cmd_kit.specs.declared.outcome.Outcome.TheVariants as outcome
 use Rattle.cmd_kit.specs.declared.status.Status.TheVariants as status
-use Rattle.cmd_kit.specs.Asked.{Outputs}
 use Rattle.cmd_kit.specs.Commands.{IsRight}
 use Rattle.cmd_kit.specs.RunSteps.{course_steps, running_steps}
-use Rattle.cmd_run.specs.Courses.{Came, Stopped}
 use Rattle.cmd_run.specs.Saves.{EndsRun, SavesBoth, SavesLast}
-use Rattle.cmd_kit.specs.Outcomes.{EndsIn, Continues, SaysStatus}
-use Rattle.cmd_kit.specs.RunEnds.{ended, run_lines}
 use Rattle.cmd_kit.specs.Steps.{Right, SourceFile, Steps, course, ending, ran, statement_of, stop, stopped, tables_of, writing}
 use Rattle.cmd_kit.proofs.ServingLemmas.{goes_past_finding, same_again, says_comes, work_ends}
 

@@ -1,13 +1,9 @@
 -- The files of `run`, read one after another: where its steps end.
 use Rattle.std.proofs.Common.{ℕ, List, Option, Some}
-use Rattle.statement.specs.Inputs.{Given}
-use Rattle.vm_io.specs.Shelf.{ShelfState}
-use Rattle.cmd_kit.specs.Asked.{Outputs}
-use Rattle.cmd_kit.specs.Outcomes.{EndsIn, EndsThere, Loads}
+use Rattle.cmd_run.proofs.Words.{Given, ShelfState, Outputs, EndsIn, EndsThere, Loads, Outcome}
 use Rattle.cmd_kit.specs.RunSteps.{run_steps, running_steps}
 use Rattle.cmd_kit.specs.Starts.{params_steps, source_steps, inputs_steps, kernel_steps}
 use Rattle.cmd_kit.specs.Steps.{SourceFile, Steps}
-use Rattle.cmd_kit.specs.declared.outcome.Outcome.{Outcome}
 
 module _ (params source inputs : List ℕ) (outputs : Outputs) (name : Option (List ℕ)) (limit : ℕ) where
   abbrev with_inputs : List ℕ → SourceFile → Given → Steps

@@ -1,19 +1,12 @@
 -- What the entries of a batch's row say where they are 0.
-use Rattle.std.proofs.Common.{◌≡◌, ℕ, zero, suc, ◌+◌, ◌<◌, ◌≤◌, Bool, true, false, ◌&&◌, ◌||◌, cond, eqb, nat_lt, nat_le, List, slice_index, refl, ap, arith, lit<, lit≤, ◌≢◌, ◌⊎◌, inl, inr, ◌∙◌, ◌*◌}
-use Rattle.std.proofs.lemmas.Bool.Decides.{nat_tests}
-use Rattle.vm_field.specs.Field.{prime, felt_add, felt_sub, felt_mul}
+use Rattle.facts_main.proofs.Words.{◌≡◌, ℕ, zero, suc, ◌+◌, ◌<◌, ◌≤◌, Bool, true, false, ◌&&◌, ◌||◌, cond, eqb, nat_lt, nat_le, List, slice_index, refl, ap}
+use Rattle.facts_main.proofs.Words.{arith, lit<, lit≤, ◌≢◌, ◌⊎◌, inl, inr, ◌∙◌, ◌*◌, nat_tests, prime, felt_add, felt_sub, felt_mul, Op, h, gc, ox, c, w}
+use Rattle.facts_main.proofs.Words.{HasOp, op_of, Claim, Spot, on_row, family, is_batch_op, positions, main_values, AllZero, IsBatchRow, NeedsPositions}
+use Rattle.facts_main.proofs.Words.{ShowsBatch, UsesHalf}
 use Rattle.vm_field.proofs.Algebra.{felt_mul-zero_first}
-use Rattle.vm_ops.specs.declared.op.Op.{Op}
 use Rattle.vm_ops.specs.declared.op.Op.TheVariants as ops
-use Rattle.vm_table.specs.MainColumns.{h, gc, ox, c, w}
-use Rattle.air_kit.specs.Flags.{HasOp, op_of}
-use Rattle.air_kit.specs.Places.{Claim, Spot, on_row, family}
 use Rattle.air_kit.specs.BlockValues.{batches}
 use Rattle.air_kit.specs.SpanValues.{span_values, batch_values, size_flags, unused, entry_92, entry_95, entry_96, entry_103, entry_104, entry_105, entry_106}
-use Rattle.air_kit.specs.MainTuples.{is_batch_op, positions}
-use Rattle.air_kit.specs.MainValues.{main_values}
-use Rattle.facts_main.specs.Zero.{AllZero}
-use Rattle.facts_main.specs.Batches.{IsBatchRow, NeedsPositions, ShowsBatch, UsesHalf}
 use Rattle.facts_main.proofs.Says.{Says, says_of, says_as, off, rest_low, zero_says, sub_says, bit_says, gate_says, gate_says_if, gate_product_says, gate_product_says_if, three_say, either_or}
 use Rattle.facts_main.proofs.Hot.{hot, row_says}
 use Rattle.facts_main.proofs.OpcodeFacts.{main_parts, row_has_op}

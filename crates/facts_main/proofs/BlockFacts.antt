@@ -1,14 +1,10 @@
 -- What the entries 61 and 67 to 91 say where they are 0, one by one.
-use Rattle.std.proofs.Common.{◌≡◌, ◌⊎◌, ℕ, ◌+◌, ◌^◌, ◌<◌, ◌≤◌, Bool, true, false, ◌&&◌, ◌||◌, not, cond, eqb, List, slice_index, refl, sym, ap, ◌∙◌, arith, lit<}
-use Rattle.vm_field.specs.Field.{prime, felt_add, felt_sub, felt_mul}
-use Rattle.vm_ops.specs.Codes.{is_ordinary_op, is_start_op}
-use Rattle.vm_ops.specs.declared.op.Op.{Op}
+use Rattle.facts_main.proofs.Words.{◌≡◌, ◌⊎◌, ℕ, ◌+◌, ◌^◌, ◌<◌, ◌≤◌, Bool, true, false, ◌&&◌, ◌||◌, not, cond, eqb, List, slice_index, refl, sym, ap, ◌∙◌}
+use Rattle.facts_main.proofs.Words.{arith, lit<, prime, felt_add, felt_sub, felt_mul, is_ordinary_op, is_start_op, Op, clk, fmp, ctx, sys, f, addr, h, sp, s}
+use Rattle.facts_main.proofs.Words.{ha, lv, is_op, is_call_op, is_batch_op, IsEndRow, ends_call, keeps_digest}
 use Rattle.vm_ops.specs.declared.op.Op.TheVariants as ops
-use Rattle.vm_table.specs.MainColumns.{clk, fmp, ctx, sys, f, addr, h, sp, s, ha, lv}
-use Rattle.air_kit.specs.Flags.{is_op}
 use Rattle.air_kit.specs.BlockValues.{starts, calls, returns, stays_inside, kind_flags, entry_61, entry_67, entry_68, entry_69, entry_70, entry_74, entry_75, entry_79, entry_80, entry_81, entry_82, entry_83, entry_84, entry_85, entry_89, entry_90, entry_91}
-use Rattle.air_kit.specs.MainTuples.{is_call_op, is_batch_op}
-use Rattle.facts_main.specs.Blocks.{IsEndRow, ends_call, stays_in_function, keeps_digest, keeps_frame, keeps_block, level_after}
+use Rattle.facts_main.specs.Blocks.{stays_in_function, keeps_frame, keeps_block, level_after}
 use Rattle.facts_main.proofs.Says.{Says, says_of, says_as, never, rest_low, zero_says, sub_says, sub_twice_says, bit_says, mul_says, gate_says, gate_product_says, two_say, three_say, four_say, tested_bit, and_false}
 use Rattle.facts_main.proofs.Hot.{hot, set_is}
 use Rattle.facts_main.proofs.FollowFacts.{starts_is}

@@ -1,19 +1,12 @@
 -- What the entries 9 to 59 say where they are 0, one by one.
-use Rattle.std.proofs.Common.{◌≡◌, ℕ, zero, suc, ◌+◌, ◌-◌, ◌^◌, ◌<◌, ◌≤◌, true, List, length, slice_index, sym, ap, subst, arith, lit<}
+use Rattle.facts_main.proofs.Words.{◌≡◌, ℕ, zero, suc, ◌+◌, ◌-◌, ◌^◌, ◌<◌, ◌≤◌, true, List, length, slice_index, sym, ap, subst, arith, lit<, most_inputs}
+use Rattle.facts_main.proofs.Words.{prime, felt_add, felt_sub, is_start_op, Op, clk, addr, ctx, fmp, sys, f, lv, depth, key, s, is_op, Claim, entry_9}
+use Rattle.facts_main.proofs.Words.{entry_10, IsLowClaim}
 use Rattle.std.proofs.lemmas.List.{length-drop}
-use Rattle.vm_field.specs.Limits.{most_inputs}
-use Rattle.vm_field.specs.Field.{prime, felt_add, felt_sub}
-use Rattle.vm_ops.specs.Codes.{is_start_op}
-use Rattle.vm_ops.specs.declared.op.Op.{Op}
 use Rattle.vm_ops.specs.declared.op.Op.TheVariants as ops
-use Rattle.vm_table.specs.MainColumns.{clk, addr, ctx, fmp, sys, f, lv, depth, key, s}
-use Rattle.air_kit.specs.Flags.{is_op}
-use Rattle.air_kit.specs.Places.{Claim}
-use Rattle.air_kit.specs.OpcodeValues.{entry_9, entry_10}
 use Rattle.air_kit.specs.BoundaryValues.{entry_11, entry_12, entry_13, entry_14, entry_15, entry_16, entry_20, entry_21, entry_22, entry_23, entry_39, entry_40, entry_41, entry_42, entry_43, entry_44}
 use Rattle.air_kit.specs.DeepCells.{deep_at_start, depth_at_start, key_at_start, key_of, keys_at_start}
 use Rattle.air_kit.proofs.InputKeys.{input_key_low, key_of_none, key_of_some}
-use Rattle.facts_main.specs.Bounds.{IsLowClaim}
 use Rattle.facts_main.proofs.Says.{Says, says_of, says_as, rest_low, zero_says, sub_says, sub_twice_says, passes_says}
 use Rattle.facts_main.proofs.Hot.{hot, set_is}
 use Rattle.facts_main.proofs.BlockFacts.{Low}

@@ -1,20 +1,12 @@
 -- What the entries 119 to 134 say where they are 0: each cell of the row behind.
-use Rattle.std.proofs.Common.{◌≡◌, ℕ, zero, suc, ◌+◌, ◌-◌, ◌%◌, ◌<◌, Bool, true, false, ◌&&◌, not, cond, eqb, nat_lt, List, [], ◌∷◌, ◌++◌, take, drop, slice_index, refl, sym, ap, ◌∙◌, arith, lit<}
-use Rattle.std.proofs.lemmas.Bool.{eqb-true}
-use Rattle.std.proofs.lemmas.Bool.Decides.{nat_tests}
-use Rattle.vm_field.specs.Field.{prime, felt_add, felt_sub, felt_mul, AreElements}
+use Rattle.facts_main.proofs.Words.{◌≡◌, ℕ, zero, suc, ◌+◌, ◌-◌, ◌%◌, ◌<◌, Bool, true, false, ◌&&◌, not, cond, eqb, nat_lt, List, [], ◌∷◌, ◌++◌, take, drop}
+use Rattle.facts_main.proofs.Words.{slice_index, refl, sym, ap, ◌∙◌, arith, lit<, eqb-true, nat_tests, prime, felt_add, felt_sub, felt_mul, AreElements}
+use Rattle.facts_main.proofs.Words.{left_cells, Op, h, s, depth, w, is_op, is_left, sum_over, sum_over-hot, IsEndRow, tests_top}
 use Rattle.vm_field.proofs.Elements.{elements-append, elements-cons, elements-drop, elements-index, elements-none, elements-one, elements-picked, elements-reverse, elements-take, elements-cond}
 use Rattle.vm_ops.specs.Moves.{takes_of, leaves_of, sources_of}
-use Rattle.vm_ops.specs.Step.{left_cells}
 use Rattle.vm_ops.specs.Values.{bit_of, computed}
-use Rattle.vm_ops.specs.declared.op.Op.{Op}
 use Rattle.vm_ops.specs.declared.op.Op.TheVariants as ops
-use Rattle.vm_table.specs.MainColumns.{h, s, depth, w}
-use Rattle.air_kit.specs.Flags.{is_op, is_left, sum_over}
 use Rattle.air_kit.specs.StackValues.{cells, function_digest, seen_of, is_free, chosen, chosen_not, word_term, left_value, top_term, below_term, end_term, term, entry_119}
-use Rattle.air_kit.proofs.FlagLemmas.{sum_over-hot}
-use Rattle.facts_main.specs.Blocks.{IsEndRow}
-use Rattle.facts_main.specs.Stack.{tests_top}
 use Rattle.facts_main.proofs.Says.{Says, says_of, says_as, off, never, rest_low, zero_says, sub_says, gate_says, two_say}
 use Rattle.facts_main.proofs.Hot.{hot, one_hot_is}
 use Rattle.facts_main.proofs.BlockFacts.{Low}

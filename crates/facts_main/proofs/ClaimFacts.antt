@@ -1,7 +1,5 @@
 -- What stands beside the rows of a trace is in the range of elements.
-use Rattle.std.proofs.Common.{ℕ, ◌<◌, ◌≤◌, ◌^◌, length, slice_index, arith}
-use Rattle.vm_field.specs.Limits.{most_outputs}
-use Rattle.vm_field.specs.Field.{prime}
+use Rattle.facts_main.proofs.Words.{ℕ, ◌<◌, ◌≤◌, ◌^◌, length, slice_index, arith, most_outputs, prime, IsLowClaim, ShowsRows}
 use Rattle.vm_field.proofs.Elements.{elements-index}
 use Rattle.vm_table.specs.Layout.{IsTable}
 use Rattle.air_kit.specs.declared.trace.Public.{Public}
@@ -9,8 +7,6 @@ use Rattle.air_kit.specs.declared.trace.TableName.TheVariants as table
 use Rattle.air_kit.specs.declared.trace.Trace.{Trace}
 use Rattle.air_kit.specs.Acceptance.{AreZero}
 use Rattle.air_kit.specs.Traces.{HasCounts, claim_of, lengths_of}
-use Rattle.facts_main.specs.Bounds.{IsLowClaim}
-use Rattle.facts_main.specs.MainRows.{ShowsRows}
 use Rattle.facts_main.proofs.TableFacts.{rows_shown}
 use Rattle.facts_main.proofs.CellFacts.{EachLow, elements_each}
 

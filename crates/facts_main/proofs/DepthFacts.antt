@@ -1,14 +1,9 @@
 -- What the entries 115 to 118 and 135 to 139 say where they are 0, one by one.
-use Rattle.std.proofs.Common.{◌≡◌, ◌≢◌, ◌⊎◌, ℕ, zero, suc, ◌+◌, ◌<◌, ◌≤◌, Bool, true, false, ◌&&◌, ◌||◌, not, cond, eqb, List, refl, sym, ap, ◌∙◌, inl, inr, ⊎_elim, arith, lit<}
-use Rattle.vm_field.specs.Field.{prime, felt_add, felt_sub, felt_mul}
-use Rattle.vm_ops.specs.declared.op.Op.{Op}
+use Rattle.facts_main.proofs.Words.{◌≡◌, ◌≢◌, ◌⊎◌, ℕ, zero, suc, ◌+◌, ◌<◌, ◌≤◌, Bool, true, false, ◌&&◌, ◌||◌, not, cond, eqb, List, refl, sym, ap, ◌∙◌, inl}
+use Rattle.facts_main.proofs.Words.{inr, ⊎_elim, arith, lit<, prime, felt_add, felt_sub, felt_mul, Op, clk, h, s, depth, key, inv, is_op, is_left, is_right}
+use Rattle.facts_main.proofs.Words.{is_call_op, IsEndRow, ends_call, tests_two, tests_top, mover, keeps_stack}
 use Rattle.vm_ops.specs.declared.op.Op.TheVariants as ops
-use Rattle.vm_table.specs.MainColumns.{clk, h, s, depth, key, inv}
-use Rattle.air_kit.specs.Flags.{is_op, is_left, is_right}
-use Rattle.air_kit.specs.MainTuples.{is_call_op}
 use Rattle.air_kit.specs.StackValues.{deeper, shifts_left, shifts_right, keeps_depth, entry_115, entry_116, entry_117, entry_118, entry_135, entry_136, entry_137, entry_138, entry_139}
-use Rattle.facts_main.specs.Blocks.{IsEndRow, ends_call}
-use Rattle.facts_main.specs.Stack.{tests_two, tests_top, mover, keeps_stack}
 use Rattle.facts_main.proofs.Says.{Says, says_of, says_as, never, rest_low, zero_says, sub_says, sub_twice_says, bit_says, mul_says, gate_says, gate_product_says, regate, four_say, tested_bit, and_false, either_or, same_four, same_five}
 use Rattle.facts_main.proofs.Hot.{hot, set_is}
 use Rattle.facts_main.proofs.BlockFacts.{Low, calls_is, returns_is}

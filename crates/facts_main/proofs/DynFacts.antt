@@ -1,14 +1,6 @@
 -- What the entries 148 to 151 say where they are 0, and back.
-use Rattle.std.proofs.Common.{◌≡◌, ℕ, ◌+◌, ◌<◌, true, List}
-use Rattle.vm_ops.specs.declared.op.Op.{Op}
+use Rattle.facts_main.proofs.Words.{◌≡◌, ℕ, ◌+◌, ◌<◌, true, List, Op, h, dyn_values, entry_148, is_op, Spot, on_row, IsDynRow, HasOps, AllZero}
 use Rattle.vm_ops.specs.declared.op.Op.TheVariants as ops
-use Rattle.vm_table.specs.MainColumns.{h}
-use Rattle.air_kit.specs.DynValues.{dyn_values, entry_148}
-use Rattle.air_kit.specs.Flags.{is_op}
-use Rattle.air_kit.specs.Places.{Spot, on_row}
-use Rattle.facts_main.specs.Dynamic.{IsDynRow}
-use Rattle.facts_main.specs.RowFacts.{HasOps}
-use Rattle.facts_main.specs.Zero.{AllZero}
 use Rattle.facts_main.proofs.BlockFacts.{Low}
 use Rattle.facts_main.proofs.Hot.{hot}
 use Rattle.facts_main.proofs.Says.{Says, gate_says, zero_says}

@@ -1,14 +1,9 @@
 -- Which operation may follow which, from the entries 60 and 62 to 66, and back.
-use Rattle.std.proofs.Common.{◌≡◌, ◌⊎◌, ℕ, zero, suc, ◌<◌, Bool, true, false, ◌&&◌, ◌||◌, not, cond, eqb, List, refl, sym, ap, ◌∙◌, inl, inr, arith, lit<, ap₂}
-use Rattle.vm_field.specs.Field.{prime, felt_add, felt_sub, felt_mul}
-use Rattle.vm_ops.specs.Codes.{is_ordinary_op, is_start_op}
-use Rattle.vm_ops.specs.declared.op.Op.{Op}
+use Rattle.facts_main.proofs.Words.{◌≡◌, ◌⊎◌, ℕ, zero, suc, ◌<◌, Bool, true, false, ◌&&◌, ◌||◌, not, cond, eqb, List, refl, sym, ap, ◌∙◌, inl, inr, arith}
+use Rattle.facts_main.proofs.Words.{lit<, ap₂, prime, felt_add, felt_sub, felt_mul, is_ordinary_op, is_start_op, Op, s, sp, is_op, is_call_op, is_batch_op}
+use Rattle.facts_main.proofs.Words.{may_follow}
 use Rattle.vm_ops.specs.declared.op.Op.TheVariants as ops
-use Rattle.vm_table.specs.MainColumns.{s, sp}
-use Rattle.air_kit.specs.Flags.{is_op}
 use Rattle.air_kit.specs.BlockValues.{starts, calls, entry_60, entry_62, entry_63, entry_64, entry_65, entry_66}
-use Rattle.air_kit.specs.MainTuples.{is_call_op, is_batch_op}
-use Rattle.facts_main.specs.Follows.{may_follow}
 use Rattle.facts_main.proofs.Says.{Says, says_of, off, never, rest_low, none_is, sub_says, zero_says, mul_says, gate_says, gate_product_says, sum_says, test_says, fails_says, passes_says}
 use Rattle.facts_main.proofs.Hot.{hot, set_is}
 use Rattle.facts_main.proofs.BatchFacts.{batches_is}

@@ -1,16 +1,10 @@
 -- What the entries 107 to 114 say where they are 0: how the rows of ordinary operations take the digits of a group.
-use Rattle.std.proofs.Common.{◌≡◌, ◌≢◌, ◌⊎◌, ℕ, ◌+◌, ◌*◌, ◌<◌, ◌≤◌, Bool, true, false, ◌||◌, not, cond, eqb, List, refl, sym, ap, subst, ◌∙◌, inl, inr, ⊎_elim, arith, lit<, ap₂}
-use Rattle.std.proofs.lemmas.Bool.{cases_Bool, eqb-true}
-use Rattle.std.proofs.lemmas.Bool.Decides.{nat_tests}
-use Rattle.vm_field.specs.Field.{prime, felt_add, felt_sub, felt_mul}
-use Rattle.vm_ops.specs.Codes.{code_of, is_ordinary_op}
-use Rattle.vm_ops.specs.declared.op.Op.{Op}
+use Rattle.facts_main.proofs.Words.{◌≡◌, ◌≢◌, ◌⊎◌, ℕ, ◌+◌, ◌*◌, ◌<◌, ◌≤◌, Bool, true, false, ◌||◌, not, cond, eqb, List, refl, sym, ap, subst, ◌∙◌, inl, inr}
+use Rattle.facts_main.proofs.Words.{⊎_elim, arith, lit<, ap₂, cases_Bool, eqb-true, nat_tests, prime, felt_add, felt_sub, felt_mul, code_of, is_ordinary_op}
+use Rattle.facts_main.proofs.Words.{Op, b, h, sp, gc, ox, w, HasOp, is_op, spelled, IsGroupRow, GoesOn, stays, pushes, opens, ends}
 use Rattle.vm_ops.specs.declared.op.Op.TheVariants as ops
 use Rattle.vm_ops.proofs.CodeLemmas.{code_of-below}
-use Rattle.vm_table.specs.MainColumns.{b, h, sp, gc, ox, w}
-use Rattle.air_kit.specs.Flags.{HasOp, is_op, spelled}
 use Rattle.air_kit.specs.SpanValues.{opcode_in, rest, rest_flag, goes_on, entry_107, entry_108, entry_109, entry_110, entry_111, entry_112, entry_113, entry_114}
-use Rattle.facts_main.specs.Groups.{IsGroupRow, GoesOn, stays, pushes, opens, ends}
 use Rattle.facts_main.proofs.Says.{Says, says_of, says_as, off, never, rest_low, none_is, zero_says, sub_says, sub_twice_says, mul_says, gate_says, gate_product_says, gate_product_says_if, regate, test_says, passes_says, either_or}
 use Rattle.facts_main.proofs.Hot.{hot}
 use Rattle.facts_main.proofs.BlockFacts.{Low}

@@ -1,11 +1,7 @@
 -- The flags of a row that has an operation, as tests on the operation.
-use Rattle.std.proofs.Common.{◌≡◌, ℕ, Bool, cond, List, sym, ap, ◌∙◌, arith}
-use Rattle.std.proofs.lemmas.Bool.Decides.{nat_tests}
+use Rattle.facts_main.proofs.Words.{◌≡◌, ℕ, Bool, cond, List, sym, ap, ◌∙◌, arith, nat_tests, Op, Flags, flag, flags_of, is_op, one_hot, HasOp, RowEntry}
+use Rattle.facts_main.proofs.Words.{PairEntry, flags_of-hot}
 use mathlib.Core.Path.{fun_ext}
-use Rattle.vm_ops.specs.declared.op.Op.{Op}
-use Rattle.air_kit.specs.Flags.{Flags, flag, flags_of, is_op, one_hot, HasOp}
-use Rattle.air_kit.specs.Places.{RowEntry, PairEntry}
-use Rattle.air_kit.proofs.FlagLemmas.{flags_of-hot}
 use Rattle.facts_main.proofs.Says.{Says, says_of}
 
 abbrev pub hot : Op → Flags

@@ -1,3 +1,4 @@
+pub mod Words
 pub mod Zeros
 pub mod Says
 pub mod Hot

@@ -1,10 +1,7 @@
 -- What the entries 140 to 147 say where they are 0, one by one.
-use Rattle.std.proofs.Common.{◌≡◌, ◌≢◌, ◌⊎◌, ℕ, ◌-◌, ◌^◌, ◌<◌, Bool, true, false, ◌&&◌, ◌||◌, cond, List, refl, sym, ap, ◌∙◌, inl, inr, ⊎_elim, arith, lit<, ap₂}
-use Rattle.vm_field.specs.Field.{prime, felt_add, felt_sub, felt_mul}
-use Rattle.vm_ops.specs.declared.op.Op.{Op}
+use Rattle.facts_main.proofs.Words.{◌≡◌, ◌≢◌, ◌⊎◌, ℕ, ◌-◌, ◌^◌, ◌<◌, Bool, true, false, ◌&&◌, ◌||◌, cond, List, refl, sym, ap, ◌∙◌, inl, inr, ⊎_elim, arith}
+use Rattle.facts_main.proofs.Words.{lit<, ap₂, prime, felt_add, felt_sub, felt_mul, Op, s, t, w, is_op}
 use Rattle.vm_ops.specs.declared.op.Op.TheVariants as ops
-use Rattle.vm_table.specs.MainColumns.{s, t, w}
-use Rattle.air_kit.specs.Flags.{is_op}
 use Rattle.air_kit.specs.U32Values.{limbs, takes_two, takes_three, two_left, entry_140, entry_141, entry_142, entry_143, entry_144, entry_145, entry_146, entry_147}
 use Rattle.facts_main.specs.Limbs.{has_second, has_third, has_high_word}
 use Rattle.facts_main.proofs.Says.{Says, says_of, says_as, never, rest_low, none_is, zero_says, sub_says, sub_twice_says, bit_says, mul_says, gate_says, gate_product_says, regate, sum_says, either_or}

@@ -1,15 +1,9 @@
 -- The facts of numbers of 32 bits, from entries that are 0, and back.
-use Rattle.std.proofs.Common.{◌≡◌, ℕ, ◌^◌, ◌<◌, Bool, true, false, ◌||◌, List, Some, refl}
-use Rattle.vm_field.specs.Field.{felt_add, felt_mul}
-use Rattle.vm_ops.specs.declared.op.Op.{Op}
+use Rattle.facts_main.proofs.Words.{◌≡◌, ℕ, ◌^◌, ◌<◌, Bool, true, false, ◌||◌, List, Some, refl, felt_add, felt_mul, Op, s, t, is_op, op_of, Spot, u32_values}
+use Rattle.facts_main.proofs.Words.{AllZero, HasOps}
 use Rattle.vm_ops.specs.declared.op.Op.TheVariants as ops
-use Rattle.vm_table.specs.MainColumns.{s, t}
-use Rattle.air_kit.specs.Flags.{is_op, op_of}
-use Rattle.air_kit.specs.Places.{Spot}
-use Rattle.air_kit.specs.U32Values.{limbs, two_left, u32_values, entry_140, entry_141, entry_142, entry_143, entry_144, entry_145, entry_146, entry_147}
-use Rattle.facts_main.specs.Zero.{AllZero}
+use Rattle.air_kit.specs.U32Values.{limbs, two_left, entry_140, entry_141, entry_142, entry_143, entry_144, entry_145, entry_146, entry_147}
 use Rattle.facts_main.specs.Limbs.{IsLimbRow, MovesLimbs, ShowsLimbs, has_third}
-use Rattle.facts_main.specs.RowFacts.{HasOps}
 use Rattle.facts_main.proofs.Zeros.{each_zero}
 use Rattle.facts_main.proofs.Says.{off}
 use Rattle.facts_main.proofs.LimbFacts.{leaves_second, leaves_fourth, says_140, says_141, says_142, says_143, says_144, says_145, says_146, says_147}

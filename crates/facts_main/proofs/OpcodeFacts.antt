@@ -1,20 +1,11 @@
 -- What the entries on operations and on the positions of a batch say where they are 0.
-use Rattle.std.proofs.Common.{ℕ, ◌+◌, ◌<◌, [], ◌∷◌, ◌++◌, slice_index}
-use Rattle.vm_field.specs.Field.{prime}
+use Rattle.facts_main.proofs.Words.{ℕ, ◌+◌, ◌<◌, [], ◌∷◌, ◌++◌, slice_index, prime, b, c, op_of, HasOp, Claim, Spot, on_row, on_pair, at_first, family}
+use Rattle.facts_main.proofs.Words.{opcode_values, entry_1, entry_8, entry_9, entry_10, main_values, decoder_values, stack_values, u32_values, dyn_values}
+use Rattle.facts_main.proofs.Words.{has_op, AllZero}
 use Rattle.vm_field.proofs.Algebra.{bit_from_product}
-use Rattle.vm_table.specs.MainColumns.{b, c}
-use Rattle.air_kit.specs.Flags.{op_of, HasOp}
-use Rattle.air_kit.specs.Places.{Claim, Spot, on_row, on_pair, at_first, family}
-use Rattle.air_kit.specs.OpcodeValues.{opcode_values, entry_1, entry_8, entry_9, entry_10}
 use Rattle.air_kit.specs.BoundaryValues.{boundary_values}
 use Rattle.air_kit.specs.BlockValues.{block_values}
 use Rattle.air_kit.specs.SpanValues.{span_values}
-use Rattle.air_kit.specs.MainValues.{main_values, decoder_values}
-use Rattle.air_kit.specs.StackValues.{stack_values}
-use Rattle.air_kit.specs.U32Values.{u32_values}
-use Rattle.air_kit.specs.DynValues.{dyn_values}
-use Rattle.air_kit.proofs.FlagLemmas.{has_op}
-use Rattle.facts_main.specs.Zero.{AllZero}
 use Rattle.facts_main.proofs.Zeros.{zero_back, zero_family, zero_front}
 
 -- The lists of all entries, part by part.

@@ -1,11 +1,5 @@
 -- The four parts of the entries of the main table.
-use Rattle.std.proofs.Common.{◌++◌}
-use Rattle.air_kit.specs.DynValues.{dyn_values}
-use Rattle.air_kit.specs.MainValues.{decoder_values, main_values}
-use Rattle.air_kit.specs.Places.{Claim, Spot}
-use Rattle.air_kit.specs.StackValues.{stack_values}
-use Rattle.air_kit.specs.U32Values.{u32_values}
-use Rattle.facts_main.specs.Zero.{AllZero}
+use Rattle.facts_main.proofs.Words.{◌++◌, dyn_values, decoder_values, main_values, Claim, Spot, stack_values, u32_values, AllZero}
 use Rattle.facts_main.proofs.Zeros.{zero_back, zero_both, zero_front}
 
 pub parts_shown : (k : Claim) (p : Spot) → AllZero (main_values k p)

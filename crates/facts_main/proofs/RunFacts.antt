@@ -1,21 +1,10 @@
 -- What follows from the facts of rows by themselves: clocks, where HALT stands, and how the buses' tests read a row.
-use Rattle.std.proofs.Common.{◌≡◌, ◌↔◌, ℕ, zero, suc, ◌<◌, ◌⊎◌, inl, inr, Bool, true, false, not, cond, eqb, List, length, refl, sym, ap, ◌∙◌, arith}
-use Rattle.vm_field.specs.Field.{prime, felt_add}
-use Rattle.vm_ops.specs.Codes.{code_of}
-use Rattle.vm_ops.specs.declared.op.Op.{Op}
+use Rattle.facts_main.proofs.Words.{◌≡◌, ◌↔◌, ℕ, zero, suc, ◌<◌, ◌⊎◌, inl, inr, Bool, true, false, not, cond, eqb, List, length, refl, sym, ap, ◌∙◌, arith}
+use Rattle.facts_main.proofs.Words.{prime, felt_add, code_of, Op, clk, h, s, is_left, is_op, op_of, row_shifts_left, Claim, has_op-op_of, may_follow}
+use Rattle.facts_main.proofs.Words.{IsGroupRow, ShowsRows, op_in, ReadsAs, mover}
 use Rattle.vm_ops.specs.declared.op.Op.TheVariants as ops
-use Rattle.vm_table.specs.MainColumns.{clk, h, s}
-use Rattle.air_kit.specs.Flags.{is_left, is_op, op_of}
-use Rattle.air_kit.specs.MainTuples.{row_shifts_left}
-use Rattle.air_kit.specs.Places.{Claim}
 use Rattle.air_kit.specs.SpanValues.{rest_flag}
-use Rattle.air_kit.proofs.FlagLemmas.{has_op-op_of}
-use Rattle.facts_main.specs.Follows.{may_follow}
-use Rattle.facts_main.specs.Groups.{IsGroupRow}
 use Rattle.vm_table.specs.Layout.{row_at}
-use Rattle.facts_main.specs.MainRows.{ShowsRows, op_in}
-use Rattle.facts_main.specs.RowFacts.{ReadsAs}
-use Rattle.facts_main.specs.Stack.{mover}
 use Rattle.facts_main.proofs.DepthFacts.{mover_left}
 use Rattle.facts_main.proofs.GroupFacts.{flag_is}
 use Rattle.facts_main.proofs.Says.{never, off}

@@ -1,6 +1,6 @@
 -- An element that is 0 exactly where something holds.
-use Rattle.std.proofs.Common.{◌≡◌, ◌⊎◌, ℕ, zero, suc, ◌+◌, ◌-◌, ◌*◌, ◌%◌, ◌<◌, Bool, true, false, ◌&&◌, ◌||◌, not, cond, refl, sym, ap, subst, ◌∙◌, inl, inr, ⊎_elim, arith, lit<, ◌≢◌, eqb}
-use Rattle.vm_field.specs.Field.{prime, felt_add, felt_sub, felt_mul}
+use Rattle.facts_main.proofs.Words.{◌≡◌, ◌⊎◌, ℕ, zero, suc, ◌+◌, ◌-◌, ◌*◌, ◌%◌, ◌<◌, Bool, true, false, ◌&&◌, ◌||◌, not, cond, refl, sym, ap, subst, ◌∙◌, inl}
+use Rattle.facts_main.proofs.Words.{inr, ⊎_elim, arith, lit<, ◌≢◌, eqb, prime, felt_add, felt_sub, felt_mul}
 use Rattle.vm_field.proofs.Algebra.{same_from_sub, felt_sub-same, zero_factor, bit_from_product, felt_mul-zero_first, felt_mul-zero_second}
 
 -- the value is an element, and it is 0 exactly where P holds

@@ -1,25 +1,13 @@
 -- The facts of a row and of the row behind it, from entries that are 0.
-use Rattle.std.proofs.Common.{◌≡◌, ◌⊎◌, ℕ, zero, suc, ◌+◌, ◌<◌, ◌≤◌, Bool, true, false, ◌||◌, List, ◌++◌, Some, None, slice_index, refl, subst, inl, inr, arith, lit<}
-use Rattle.vm_field.specs.Field.{felt_add}
-use Rattle.vm_ops.specs.Codes.{is_ordinary_op}
-use Rattle.vm_ops.specs.declared.op.Op.{Op}
+use Rattle.facts_main.proofs.Words.{◌≡◌, ◌⊎◌, ℕ, zero, suc, ◌+◌, ◌<◌, ◌≤◌, Bool, true, false, ◌||◌, List, ◌++◌, Some, None, slice_index, refl, subst, inl}
+use Rattle.facts_main.proofs.Words.{inr, arith, lit<, felt_add, is_ordinary_op, Op, clk, f, h, s, op_of, is_op, Claim, Spot, on_row, on_pair, at_first}
+use Rattle.facts_main.proofs.Words.{at_last, family, opcode_values, entry_9, entry_10, is_batch_op, is_call_op, positions, decoder_values, AllZero}
+use Rattle.facts_main.proofs.Words.{IsBatchRow, ShowsBatch, OpensBatch, IsEndRow, IsBlockRow, KeepsBlock, KeepsBatch, keeps_digest, IsLowClaim, StartsRun}
+use Rattle.facts_main.proofs.Words.{IsFirstRow, IsLastRow, may_follow, IsGroupRow, GoesOn, ReadsAs, HasOps, IsRow, IsPair, IsAtSpot}
 use Rattle.vm_ops.specs.declared.op.Op.TheVariants as ops
-use Rattle.vm_table.specs.MainColumns.{clk, f, h, s}
-use Rattle.air_kit.specs.Flags.{op_of, is_op}
-use Rattle.air_kit.specs.Places.{Claim, Spot, on_row, on_pair, at_first, at_last, family}
-use Rattle.air_kit.specs.OpcodeValues.{opcode_values, entry_9, entry_10}
 use Rattle.air_kit.specs.BoundaryValues.{boundary_values, start_values, inputs_values, end_values, outputs_values, entry_11, entry_12, entry_13, entry_14, entry_15, entry_16, entry_20, entry_21, entry_22, entry_23, entry_39, entry_40, entry_41, entry_42, entry_43, entry_44}
 use Rattle.air_kit.specs.BlockValues.{block_values, follow_values, shown_values, kept_values, kind_flags, entry_60, entry_61, entry_62, entry_63, entry_64, entry_65, entry_66, entry_67, entry_68, entry_69, entry_70, entry_74, entry_75, entry_79, entry_80, entry_81, entry_82, entry_83, entry_84, entry_85, entry_89, entry_90, entry_91}
 use Rattle.air_kit.specs.SpanValues.{span_values, batch_values, group_values, entry_96, entry_103, entry_104, entry_105, entry_106, entry_107, entry_108, entry_109, entry_110, entry_111, entry_112, entry_113, entry_114}
-use Rattle.air_kit.specs.MainTuples.{is_batch_op, is_call_op, positions}
-use Rattle.air_kit.specs.MainValues.{decoder_values}
-use Rattle.facts_main.specs.Zero.{AllZero}
-use Rattle.facts_main.specs.Batches.{IsBatchRow, ShowsBatch, OpensBatch}
-use Rattle.facts_main.specs.Blocks.{IsEndRow, IsBlockRow, KeepsBlock, KeepsBatch, keeps_digest}
-use Rattle.facts_main.specs.Bounds.{IsLowClaim, StartsRun, IsFirstRow, IsLastRow}
-use Rattle.facts_main.specs.Follows.{may_follow}
-use Rattle.facts_main.specs.Groups.{IsGroupRow, GoesOn}
-use Rattle.facts_main.specs.RowFacts.{ReadsAs, HasOps, IsRow, IsPair, IsAtSpot}
 use Rattle.facts_main.proofs.Zeros.{zero_front, zero_back, zero_family}
 use Rattle.facts_main.proofs.Hot.{row_says}
 use Rattle.facts_main.proofs.OpcodeFacts.{row_has_op}

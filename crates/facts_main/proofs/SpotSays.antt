@@ -1,11 +1,7 @@
 -- What an entry says in its place: of a row, of a row and the one behind it, of the first row, or of the last one.
-use Rattle.std.proofs.Common.{◌≡◌, ℕ, ◌<◌, Bool, true, false, cond, eqb, List, Option, Some, None, refl, sym, ap, ◌∙◌, inl, inr, lit<}
-use Rattle.std.proofs.lemmas.Bool.{cases_Bool, eqb-true}
-use Rattle.vm_field.specs.Field.{prime}
-use Rattle.vm_ops.specs.declared.op.Op.{Op}
-use Rattle.air_kit.specs.Flags.{flag, op_of}
-use Rattle.air_kit.specs.Places.{RowEntry, PairEntry, Spot, on_row, on_pair, between, at_first, at_last, at_end}
-use Rattle.facts_main.specs.RowFacts.{HasOps, ReadsAs}
+use Rattle.facts_main.proofs.Words.{◌≡◌, ℕ, ◌<◌, Bool, true, false, cond, eqb, List, Option, Some, None, refl, sym, ap, ◌∙◌, inl, inr, lit<, cases_Bool}
+use Rattle.facts_main.proofs.Words.{eqb-true, prime, Op, flag, op_of, RowEntry, PairEntry, Spot, on_row, on_pair, between, at_first, at_last, at_end, HasOps}
+use Rattle.facts_main.proofs.Words.{ReadsAs}
 use Rattle.facts_main.proofs.Says.{Says}
 use Rattle.facts_main.proofs.Hot.{hot, row_says, pair_says}
 

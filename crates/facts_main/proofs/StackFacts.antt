@@ -1,24 +1,15 @@
 -- The facts of the stack, from entries that are 0, and back.
-use Rattle.std.proofs.Common.{◌≡◌, ◌≢◌, ◌⊎◌, ℕ, zero, suc, ◌<◌, ◌≤◌, Bool, true, false, ◌&&◌, not, cond, eqb, nat_lt, nat_le, List, ◌++◌, Some, refl, sym, ap, ◌∙◌, inl, inr, ⊎_elim, arith, lit<}
-use Rattle.std.proofs.lemmas.Bool.{eqb-true}
-use Rattle.std.proofs.lemmas.Bool.Decides.{nat_tests}
-use Rattle.vm_field.specs.Field.{prime, felt_add, felt_sub, felt_mul, felt_inv}
+use Rattle.facts_main.proofs.Words.{◌≡◌, ◌≢◌, ◌⊎◌, ℕ, zero, suc, ◌<◌, ◌≤◌, Bool, true, false, ◌&&◌, not, cond, eqb, nat_lt, nat_le, List, ◌++◌, Some, refl}
+use Rattle.facts_main.proofs.Words.{sym, ap, ◌∙◌, inl, inr, ⊎_elim, arith, lit<, eqb-true, nat_tests, prime, felt_add, felt_sub, felt_mul, felt_inv}
+use Rattle.facts_main.proofs.Words.{left_cells, Op, clk, h, s, depth, key, w, is_op, is_left, is_right, op_of, is_call_op, Spot, on_pair, family}
+use Rattle.facts_main.proofs.Words.{stack_values, AllZero, IsBlockRow, HasOps, IsStackRow, MovesDepth, ShiftsCells, LeavesCells, ShowsStack, mover}
+use Rattle.facts_main.proofs.Words.{keeps_stack}
 use Rattle.vm_field.proofs.Inverses.{felt_mul-felt_inv, felt_inv-unique}
 use Rattle.vm_ops.specs.Moves.{leaves_of}
-use Rattle.vm_ops.specs.Step.{left_cells}
 use Rattle.vm_ops.specs.Values.{computed}
-use Rattle.vm_ops.specs.declared.op.Op.{Op}
 use Rattle.vm_ops.specs.declared.op.Op.TheVariants as ops
 use Rattle.vm_ops.proofs.MoveLemmas.{leaves_of-below}
-use Rattle.vm_table.specs.MainColumns.{clk, h, s, depth, key, w}
-use Rattle.air_kit.specs.Flags.{is_op, is_left, is_right, op_of}
-use Rattle.air_kit.specs.MainTuples.{is_call_op}
-use Rattle.air_kit.specs.Places.{Spot, on_pair, family}
-use Rattle.air_kit.specs.StackValues.{cells, seen_of, left_value, depth_values, cell_values, operand_values, stack_values, entry_115, entry_116, entry_117, entry_118, entry_119, entry_135, entry_136, entry_137, entry_138, entry_139}
-use Rattle.facts_main.specs.Zero.{AllZero}
-use Rattle.facts_main.specs.Blocks.{IsBlockRow}
-use Rattle.facts_main.specs.RowFacts.{HasOps}
-use Rattle.facts_main.specs.Stack.{IsStackRow, MovesDepth, ShiftsCells, LeavesCells, ShowsStack, mover, keeps_stack}
+use Rattle.air_kit.specs.StackValues.{cells, seen_of, left_value, depth_values, cell_values, operand_values, entry_115, entry_116, entry_117, entry_118, entry_119, entry_135, entry_136, entry_137, entry_138, entry_139}
 use Rattle.facts_main.proofs.Zeros.{zero_front, zero_back, zero_family, zero_both, zero_of_family, each_zero}
 use Rattle.facts_main.proofs.Says.{off, never, none_is, either_or}
 use Rattle.facts_main.proofs.BlockFacts.{Low}

@@ -1,23 +1,12 @@
 -- The facts of all rows of a table, from entries that are 0, and back.
-use Rattle.std.proofs.Common.{◌≡◌, ℕ, zero, suc, ◌<◌, ◌⊎◌, inl, inr, List, [], length, Some, None, refl, sym, subst, arith}
+use Rattle.facts_main.proofs.Words.{◌≡◌, ℕ, zero, suc, ◌<◌, ◌⊎◌, inl, inr, List, [], length, Some, None, refl, sym, subst, arith, Op, op_of, dyn_values}
+use Rattle.facts_main.proofs.Words.{main_values, decoder_values, Claim, Spot, at_number, stack_values, u32_values, IsLowClaim, IsFirstRow, IsDynRow}
+use Rattle.facts_main.proofs.Words.{MainIsZero, ShowsPair, ShowsRow, ShowsRows, op_in, IsAtSpot, HasOps, ReadsAs, ShowsStack, AllZero}
 use Rattle.std.proofs.lemmas.Option.{slice_get_within, slice_get-get_or, slice_get_past, get_or_from_slice_get}
 use Rattle.std.specs.List.{slice_get}
-use Rattle.vm_ops.specs.declared.op.Op.{Op}
 use Rattle.vm_table.specs.Layout.{IsTable, row_at}
-use Rattle.air_kit.specs.Flags.{op_of}
-use Rattle.air_kit.specs.DynValues.{dyn_values}
-use Rattle.air_kit.specs.MainValues.{main_values, decoder_values}
-use Rattle.air_kit.specs.Places.{Claim, Spot, at_number}
-use Rattle.air_kit.specs.StackValues.{stack_values}
 use Rattle.air_kit.specs.Traces.{spot_of}
-use Rattle.air_kit.specs.U32Values.{u32_values}
-use Rattle.facts_main.specs.Bounds.{IsLowClaim, IsFirstRow}
-use Rattle.facts_main.specs.Dynamic.{IsDynRow}
 use Rattle.facts_main.specs.Limbs.{ShowsLimbs}
-use Rattle.facts_main.specs.MainRows.{MainIsZero, ShowsPair, ShowsRow, ShowsRows, op_in}
-use Rattle.facts_main.specs.RowFacts.{IsAtSpot, HasOps, ReadsAs}
-use Rattle.facts_main.specs.Stack.{ShowsStack}
-use Rattle.facts_main.specs.Zero.{AllZero}
 use Rattle.facts_main.proofs.DynFacts.{dyn_shown, dyn_zeros}
 use Rattle.facts_main.proofs.LimbSpots.{limbs_shown, limbs_zeros}
 use Rattle.facts_main.proofs.PartFacts.{parts_shown, whole_zero}

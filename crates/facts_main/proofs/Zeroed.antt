@@ -1,25 +1,13 @@
 -- Entries that are 0, from the facts of a row and of the row behind it.
-use Rattle.std.proofs.Common.{◌≡◌, ◌⊎◌, ℕ, zero, suc, ◌+◌, ◌<◌, true, List, [], ◌∷◌, ◌++◌, Some, None, refl, ap, ◌∙◌, inl, inr, arith, lit<}
-use Rattle.vm_field.specs.Field.{felt_add, felt_sub}
-use Rattle.vm_ops.specs.Codes.{every_op, is_ordinary_op}
-use Rattle.vm_ops.specs.declared.op.Op.{Op}
+use Rattle.facts_main.proofs.Words.{◌≡◌, ◌⊎◌, ℕ, zero, suc, ◌+◌, ◌<◌, true, List, [], ◌∷◌, ◌++◌, Some, None, refl, ap, ◌∙◌, inl, inr, arith, lit<, felt_add}
+use Rattle.facts_main.proofs.Words.{felt_sub, every_op, is_ordinary_op, Op, b, clk, h, s, op_of, is_op, sum_of, at_op, sum_of-hot, Claim, Spot, on_row}
+use Rattle.facts_main.proofs.Words.{on_pair, at_first, at_last, family, opcode_values, entry_1, entry_8, entry_9, entry_10, is_batch_op, decoder_values}
+use Rattle.facts_main.proofs.Words.{AllZero, IsBatchRow, IsEndRow, IsBlockRow, KeepsBlock, KeepsBatch, IsLowClaim, IsFirstRow, IsLastRow, may_follow, HasOps}
+use Rattle.facts_main.proofs.Words.{IsRow, IsPair, IsAtSpot}
 use Rattle.vm_ops.specs.declared.op.Op.TheVariants as ops
-use Rattle.vm_table.specs.MainColumns.{b, clk, h, s}
-use Rattle.air_kit.specs.Flags.{op_of, is_op, sum_of}
-use Rattle.air_kit.proofs.FlagLemmas.{at_op, sum_of-hot}
-use Rattle.air_kit.specs.Places.{Claim, Spot, on_row, on_pair, at_first, at_last, family}
-use Rattle.air_kit.specs.OpcodeValues.{opcode_values, entry_1, entry_8, entry_9, entry_10}
 use Rattle.air_kit.specs.BoundaryValues.{boundary_values, start_values, inputs_values, end_values, outputs_values, entry_11, entry_12, entry_13, entry_14, entry_15, entry_16, entry_20, entry_21, entry_22, entry_23, entry_39, entry_40, entry_41, entry_42, entry_43, entry_44}
 use Rattle.air_kit.specs.BlockValues.{block_values, follow_values, shown_values, kept_values, kind_flags, entry_60, entry_61, entry_62, entry_63, entry_64, entry_65, entry_66, entry_67, entry_68, entry_69, entry_70, entry_74, entry_75, entry_79, entry_80, entry_81, entry_82, entry_83, entry_84, entry_85, entry_89, entry_90, entry_91}
 use Rattle.air_kit.specs.SpanValues.{span_values, batch_values, group_values, entry_92, entry_95, entry_96, entry_103, entry_104, entry_105, entry_106, entry_107, entry_108, entry_109, entry_110, entry_111, entry_112, entry_113, entry_114}
-use Rattle.air_kit.specs.MainTuples.{is_batch_op}
-use Rattle.air_kit.specs.MainValues.{decoder_values}
-use Rattle.facts_main.specs.Zero.{AllZero}
-use Rattle.facts_main.specs.Batches.{IsBatchRow}
-use Rattle.facts_main.specs.Blocks.{IsEndRow, IsBlockRow, KeepsBlock, KeepsBatch}
-use Rattle.facts_main.specs.Bounds.{IsLowClaim, IsFirstRow, IsLastRow}
-use Rattle.facts_main.specs.Follows.{may_follow}
-use Rattle.facts_main.specs.RowFacts.{HasOps, IsRow, IsPair, IsAtSpot}
 use Rattle.facts_main.proofs.Zeros.{each_zero, zero_both, zero_of_family}
 use Rattle.facts_main.proofs.Says.{bit_says}
 use Rattle.facts_main.proofs.BatchFacts.{size_of, says_92, says_95, says_96, says_103, says_104, says_105, says_106}

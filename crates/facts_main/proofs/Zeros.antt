@@ -1,8 +1,6 @@
 -- Lists of values that are all 0, taken apart.
-use Rattle.std.proofs.Common.{◌≡◌, ℕ, zero, suc, ◌<◌, List, [], ◌∷◌, ◌++◌, refl, sym, ◌∙◌, arith}
-use Rattle.air_kit.specs.Places.{at_number, family}
+use Rattle.facts_main.proofs.Words.{◌≡◌, ℕ, zero, suc, ◌<◌, List, [], ◌∷◌, ◌++◌, refl, sym, ◌∙◌, arith, at_number, family, AllZero}
 use Rattle.air_kit.proofs.FaultLemmas.{family_at}
-use Rattle.facts_main.specs.Zero.{AllZero}
 
 -- each value of the numbers is 0
 pub numbers_zero : (values : List ℕ) → ((number : ℕ) → at_number values number ≡ 0) → AllZero values

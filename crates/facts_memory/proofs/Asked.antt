@@ -1,17 +1,13 @@
 -- From how often tuples count: each row's access is asked, and each one asked has a row.
-use Rattle.std.proofs.Common.{◌≡◌, ℕ, zero, suc, ◌+◌, ◌<◌, ◌⊎◌, inl, inr, ⊎_elim, cond, nat_eq, List, [], ◌∷◌, length, Option, Some, None, refl, sym, ap, subst, ◌∙◌, arith}
-use Rattle.std.proofs.lemmas.Bool.{cases_Bool}
+use Rattle.facts_memory.proofs.Words.{◌≡◌, ℕ, zero, suc, ◌+◌, ◌<◌, ◌⊎◌, inl, inr, ⊎_elim, cond, nat_eq, List, [], ◌∷◌, length, Option, Some, None, refl, sym}
+use Rattle.facts_memory.proofs.Words.{ap, subst, ◌∙◌, arith, cases_Bool, tuple-same, Access, access_given, AreSmall, access_at, AreAsked, AreAsks, GivesAsks}
+use Rattle.facts_memory.proofs.Words.{HasRow, asked_of}
 use Rattle.std.specs.Cmp.Lexicographic.{same_text}
 use lib.Pointwise.{pointwise}
 use Rattle.buses.specs.Counts.{counted, hits, once, over_first, over_rows, total}
 use Rattle.buses.specs.declared.bus.Bus.TheVariants as bus
-use Rattle.buses.proofs.Counting.{tuple-same}
-use Rattle.air_kit.specs.declared.requests.Access.{Access}
 use Rattle.air_kit.specs.declared.trace.TableName.TheVariants as table
 use Rattle.air_kit.specs.ChipTuples.{chip_given, memory_given}
-use Rattle.air_kit.specs.Requests.{access_given}
-use Rattle.facts_memory.specs.MemoryTables.{AreSmall, access_at}
-use Rattle.facts_memory.specs.Serving.{AreAsked, AreAsks, GivesAsks, HasRow, asked_of}
 
 -- ---- sums
 

@@ -1,15 +1,9 @@
 -- The values of the row of an access that fits behind another one are 0.
-use Rattle.std.proofs.Common.{◌≡◌, ℕ, zero, suc, ◌/◌, ◌%◌, ◌<◌, ◌==◌, Bool, true, false, List, [], ◌∷◌, slice_index, Option, Some, None, option_map, refl, sym, ap, subst, ◌∙◌, arith, lit<}
-use Rattle.std.proofs.lemmas.Bool.{eqb-true}
-use Rattle.vm_field.specs.Field.{prime, felt_add, felt_sub, felt_mul}
-use Rattle.vm_field.specs.Machine.{IsWord, zero_word}
-use Rattle.vm_field.proofs.Elements.{elements-index}
+use Rattle.facts_memory.proofs.Words.{◌≡◌, ℕ, zero, suc, ◌/◌, ◌%◌, ◌<◌, ◌==◌, Bool, true, false, List, [], ◌∷◌, slice_index, Option, Some, None, option_map}
+use Rattle.facts_memory.proofs.Words.{refl, sym, ap, subst, ◌∙◌, arith, lit<, eqb-true, prime, felt_add, felt_sub, felt_mul, IsWord, zero_word}
+use Rattle.facts_memory.proofs.Words.{elements-index, family, access_values, entry_1, entry_5, goes_on_here, memory_values, order_step, step_of, word_values}
+use Rattle.facts_memory.proofs.Words.{Access, Keeps, word_behind, new_address, new_context, row_behind, step_behind}
 use Rattle.air_kit.specs.ChipPlaces.{only, paired}
-use Rattle.air_kit.specs.Places.{family}
-use Rattle.air_kit.specs.MemoryValues.{access_values, entry_1, entry_5, goes_on_here, memory_values, order_step, step_of, word_values}
-use Rattle.air_kit.specs.declared.requests.Access.{Access}
-use Rattle.facts_memory.specs.Accesses.{Keeps, word_behind}
-use Rattle.facts_memory.specs.AccessRows.{new_address, new_context, row_behind, step_behind}
 use Rattle.facts_memory.proofs.Entries.{OrderZero, address_zero, bit_zero, kept_zero, kind_zero, order_zero, read_zero, rejoined}
 use Rattle.facts_memory.proofs.Fitting.{FitsBehind, factor, kept_at, old_is, read_at, steps_behind, zeros_at}
 use Rattle.facts_memory.proofs.Numbers.{by_flags, limit, over}

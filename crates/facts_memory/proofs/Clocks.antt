@@ -1,13 +1,7 @@
 -- Accesses at clocks of their own are so in any order.
-use Rattle.std.proofs.Common.{◌≡◌, ℕ, zero, suc, ◌+◌, ◌<◌, ◌≤◌, ◌==◌, ◌⊎◌, inl, inr, true, false, cond, List, [], ◌∷◌, length, slice_index_or, refl, sym, ap, subst, ◌∙◌, arith}
-use Rattle.std.specs.List.{sum_by}
-use Rattle.std.specs.List.Sorted.{IsPermutation}
-use Rattle.std.proofs.lemmas.Bool.{cases_Bool, eq-eqb, eqb-true}
-use Rattle.std.proofs.lemmas.List.{get_or_default}
-use Rattle.std.proofs.lemmas.List.Sorted.{sum_by-IsPermutation}
-use Rattle.std.proofs.lemmas.List.Sums.{get_or-le-sum_by, sum_by-cons}
-use Rattle.air_kit.specs.declared.requests.Access.{Access}
-use Rattle.facts_memory.specs.MemoryTables.{AccessesFit}
+use Rattle.facts_memory.proofs.Words.{◌≡◌, ℕ, zero, suc, ◌+◌, ◌<◌, ◌≤◌, ◌==◌, ◌⊎◌, inl, inr, true, false, cond, List, [], ◌∷◌, length, slice_index_or, refl}
+use Rattle.facts_memory.proofs.Words.{sym, ap, subst, ◌∙◌, arith, sum_by, IsPermutation, cases_Bool, eq-eqb, eqb-true, get_or_default, sum_by-IsPermutation}
+use Rattle.facts_memory.proofs.Words.{get_or-le-sum_by, sum_by-cons, Access, AccessesFit}
 
 -- 1 for an access at this clock
 abbrev pub at_clock : ℕ → Access → ℕ

@@ -1,6 +1,5 @@
 -- Numbers at which the entries are 0.
-use Rattle.std.proofs.Common.{◌≡◌, ℕ, zero, suc, ◌-◌, ◌/◌, ◌%◌, ◌<◌, ◌≤◌, refl, ap, ap₂, ◌∙◌, arith}
-use Rattle.vm_field.specs.Field.{prime, felt_add, felt_sub, felt_mul}
+use Rattle.facts_memory.proofs.Words.{◌≡◌, ℕ, zero, suc, ◌-◌, ◌/◌, ◌%◌, ◌<◌, ◌≤◌, refl, ap, ap₂, ◌∙◌, arith, prime, felt_add, felt_sub, felt_mul}
 use Rattle.vm_field.proofs.Algebra.{felt_mul-zero_first, felt_mul-zero_second, felt_sub-same}
 use Rattle.air_kit.specs.HasherValues.{bit_value}
 use Rattle.facts_memory.proofs.Numbers.{by_flags, limit, over}

@@ -1,12 +1,7 @@
 -- An access that fits behind another one, with the flags and the step of its row.
-use Rattle.std.proofs.Common.{◌≡◌, ℕ, zero, suc, ◌-◌, ◌<◌, ◌≤◌, ◌==◌, Bool, true, false, cond, List, [], ◌∷◌, drop, slice_index, Option, Some, refl, sym, ap, ap₂, ◌∙◌, arith}
-use Rattle.std.proofs.lemmas.Bool.{eq-eqb, ne_eqb}
-use Rattle.vm_field.specs.Field.{prime, felt_sub, felt_mul}
-use Rattle.vm_field.specs.Machine.{IsWord, zero_word}
-use Rattle.vm_field.proofs.Elements.{elements-index}
-use Rattle.air_kit.specs.declared.requests.Access.{Access}
-use Rattle.facts_memory.specs.Accesses.{Keeps, word_behind}
-use Rattle.facts_memory.specs.AccessRows.{new_address, new_context, step_behind}
+use Rattle.facts_memory.proofs.Words.{◌≡◌, ℕ, zero, suc, ◌-◌, ◌<◌, ◌≤◌, ◌==◌, Bool, true, false, cond, List, [], ◌∷◌, drop, slice_index, Option, Some, refl}
+use Rattle.facts_memory.proofs.Words.{sym, ap, ap₂, ◌∙◌, arith, eq-eqb, ne_eqb, prime, felt_sub, felt_mul, IsWord, zero_word, elements-index, Access, Keeps}
+use Rattle.facts_memory.proofs.Words.{word_behind, new_address, new_context, step_behind}
 use Rattle.facts_memory.proofs.Entries.{Limited, Steps, by_address, by_clock, by_context}
 use Rattle.facts_memory.proofs.RowOrder.{at_other_address, at_other_context, at_same}
 

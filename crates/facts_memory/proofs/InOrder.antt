@@ -1,11 +1,7 @@
 -- Of accesses in order, the one before shows the latest word of its place.
-use Rattle.std.proofs.Common.{◌≡◌, ℕ, zero, suc, ◌<◌, ◌≤◌, ◌⊎◌, inl, inr, true, false, cond, List, length, Option, Some, sym, ap, subst, ◌∙◌, arith}
-use Rattle.std.proofs.lemmas.Bool.{cases_Bool}
-use Rattle.vm_field.specs.Machine.{zero_word}
-use Rattle.air_kit.specs.declared.requests.Access.{Access}
-use Rattle.facts_memory.specs.Accesses.{Keeps, is_at, access_key, word_behind}
-use Rattle.facts_memory.specs.MemoryTables.{AreOrdered, AreSmall, access_at, access_before}
-use Rattle.facts_memory.specs.Serving.{AreAsked, HasRow}
+use Rattle.facts_memory.proofs.Words.{◌≡◌, ℕ, zero, suc, ◌<◌, ◌≤◌, ◌⊎◌, inl, inr, true, false, cond, List, length, Option, Some, sym, ap, subst, ◌∙◌, arith}
+use Rattle.facts_memory.proofs.Words.{cases_Bool, zero_word, Access, Keeps, is_at, access_key, word_behind, AreOrdered, AreSmall, access_at, access_before}
+use Rattle.facts_memory.proofs.Words.{AreAsked, HasRow}
 use Rattle.facts_memory.proofs.Keys.{between, clock_of_place, key_of_place, rise, rise_back, rise_to}
 use Rattle.facts_memory.proofs.Latest.{KeepLatest, NoneOf, latest, latest-at, latest-none, place_is}
 use Rattle.facts_memory.proofs.RowOrder.{at_same}

@@ -1,8 +1,5 @@
 -- Keys that rise, and accesses of one place.
-use Rattle.std.proofs.Common.{◌≡◌, ℕ, zero, suc, ◌+◌, ◌*◌, ◌<◌, ◌≤◌, ◌⊎◌, inl, inr, ⊎_elim, true, ap, arith}
-use Rattle.std.proofs.lemmas.Bool.{cases_order}
-use Rattle.air_kit.specs.declared.requests.Access.{Access}
-use Rattle.facts_memory.specs.Accesses.{is_at, access_key}
+use Rattle.facts_memory.proofs.Words.{◌≡◌, ℕ, zero, suc, ◌+◌, ◌*◌, ◌<◌, ◌≤◌, ◌⊎◌, inl, inr, ⊎_elim, true, ap, arith, cases_order, Access, is_at, access_key}
 use Rattle.facts_memory.proofs.Latest.{place_is}
 use Rattle.facts_memory.proofs.Numbers.{limit}
 use Rattle.facts_memory.proofs.RowOrder.{at_same}

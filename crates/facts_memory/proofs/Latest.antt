@@ -1,12 +1,9 @@
 -- The word of the last access of a place before a clock, whether it was read or written there.
-use Rattle.std.proofs.Common.{◌≡◌, ◌≢◌, ℕ, zero, suc, ◌<◌, ◌≤◌, ◌==◌, ◌⊎◌, inl, inr, ⊎_elim, true, false, cond, List, Option, Some, None, refl, sym, ap, ap₂, ◌∙◌, arith, unwrap_or}
-use Rattle.std.proofs.lemmas.Bool.{and_parts, cases_Bool, eqb-true}
+use Rattle.facts_memory.proofs.Words.{◌≡◌, ◌≢◌, ℕ, zero, suc, ◌<◌, ◌≤◌, ◌==◌, ◌⊎◌, inl, inr, ⊎_elim, true, false, cond, List, Option, Some, None, refl, sym}
+use Rattle.facts_memory.proofs.Words.{ap, ap₂, ◌∙◌, arith, unwrap_or, and_parts, cases_Bool, eqb-true, WordMap, place_cmp, word_at, zero_word, Access, Keeps}
+use Rattle.facts_memory.proofs.Words.{is_at, memory_before, memory_behind}
 use Rattle.std.specs.FinMap.{get-empty, insert}
-use Rattle.vm_field.specs.Machine.{WordMap, place_cmp, word_at, zero_word}
 use Rattle.vm_field.proofs.Places.{word_at-insert_same, word_at-insert_other}
-use Rattle.air_kit.specs.declared.requests.Access.{Access}
-use Rattle.facts_memory.specs.Accesses.{Keeps, is_at}
-use Rattle.facts_memory.specs.Serving.{memory_before, memory_behind}
 use Rattle.facts_memory.proofs.RowOrder.{at_same}
 
 abbrev pub latest_of : Option Access → ℕ → ℕ → List ℕ → List ℕ

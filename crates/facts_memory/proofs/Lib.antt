@@ -1,6 +1,7 @@
 pub mod Numbers
 pub mod RowZeros
 pub mod RowOrder
+pub mod Words
 pub mod ZerosOrder
 pub mod Latest
 pub mod Keys

@@ -1,20 +1,15 @@
 -- A table of memory serves the rows of a main table that ask what it gives.
-use Rattle.std.proofs.Common.{◌≡◌, ℕ, zero, suc, ◌+◌, ◌<◌, ◌^◌, List, [], length, slice_get, Option, Some, None, refl, sym, ap, ap₂, subst, ◌∙◌, arith}
-use Rattle.std.proofs.lemmas.Option.{slice_get-get_or, slice_get_within}
+use Rattle.facts_memory.proofs.Words.{◌≡◌, ℕ, zero, suc, ◌+◌, ◌<◌, ◌^◌, List, [], length, slice_get, Option, Some, None, refl, sym, ap, ap₂, subst, ◌∙◌}
+use Rattle.facts_memory.proofs.Words.{arith, slice_get-get_or, slice_get_within, WordMap, word_at, Access, Keeps, row_at, HaveLimbs, MemoryIsZero, access_at}
+use Rattle.facts_memory.proofs.Words.{AreAsks, ArePaired, AreServed, GivesAsks, asked_of, memory_before, memory_behind}
 use Rattle.buses.specs.Counts.{counted, over_first, total, with_next}
-use Rattle.vm_field.specs.Machine.{WordMap, word_at}
 use Rattle.vm_ops.specs.declared.op.Op.{Op}
 use Rattle.vm_ops.specs.declared.op.Op.TheVariants as ops
 use Rattle.vm_table.specs.MainColumns.{clk, ctx}
-use Rattle.air_kit.specs.declared.requests.Access.{Access}
 use Rattle.air_kit.specs.Flags.{op_of}
 use Rattle.air_kit.specs.MainTuples.{accesses_of, memory_asked}
 use Rattle.air_kit.specs.RowStates.{memory_at, memory_behind as row_behind, written_by}
-use Rattle.facts_memory.specs.Accesses.{Keeps}
 use Rattle.facts_memory.specs.MainAccesses.{GivesMain, HasMainRow, IsClocked, PairsMain, ServesMain, access_by}
-use Rattle.vm_table.specs.Layout.{row_at}
-use Rattle.facts_memory.specs.MemoryTables.{HaveLimbs, MemoryIsZero, access_at}
-use Rattle.facts_memory.specs.Serving.{AreAsks, ArePaired, AreServed, GivesAsks, asked_of, memory_before, memory_behind}
 use Rattle.facts_memory.proofs.TableServes.{pairs, serves}
 
 -- ---- by the operation

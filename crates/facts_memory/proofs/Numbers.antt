@@ -1,6 +1,5 @@
 -- What the entries say of small numbers.
-use Rattle.std.proofs.Common.{◌≡◌, ℕ, zero, suc, ◌+◌, ◌*◌, ◌<◌, ◌≤◌, ⊎_elim, refl, arith, lit<}
-use Rattle.vm_field.specs.Field.{prime, felt_add, felt_sub, felt_mul}
+use Rattle.facts_memory.proofs.Words.{◌≡◌, ℕ, zero, suc, ◌+◌, ◌*◌, ◌<◌, ◌≤◌, ⊎_elim, refl, arith, lit<, prime, felt_add, felt_sub, felt_mul}
 use Rattle.vm_field.proofs.Algebra.{same_from_sub, zero_factor}
 
 -- 2^32

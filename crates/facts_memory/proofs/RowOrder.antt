@@ -1,11 +1,7 @@
 -- The order of rows whose values are 0, and the word before each.
-use Rattle.std.proofs.Common.{◌≡◌, ℕ, ◌+◌, ◌*◌, ◌<◌, ◌==◌, ◌&&◌, Bool, true, false, cond, List, [], ◌∷◌, Some, sym, ap, ap₂, ◌∙◌, arith}
-use Rattle.std.proofs.lemmas.Bool.{eq-eqb, ne_eqb, and_left, and_right}
-use Rattle.vm_field.specs.Field.{prime, felt_sub, felt_mul}
-use Rattle.vm_field.specs.Machine.{zero_word}
+use Rattle.facts_memory.proofs.Words.{◌≡◌, ℕ, ◌+◌, ◌*◌, ◌<◌, ◌==◌, ◌&&◌, Bool, true, false, cond, List, [], ◌∷◌, Some, sym, ap, ap₂, ◌∙◌, arith, eq-eqb}
+use Rattle.facts_memory.proofs.Words.{ne_eqb, and_left, and_right, prime, felt_sub, felt_mul, zero_word, Access, access_of, is_at, access_key, word_behind}
 use Rattle.chip_columns.specs.MemoryColumns.{ctx, addr, clk, v, n0, n1}
-use Rattle.air_kit.specs.declared.requests.Access.{Access}
-use Rattle.facts_memory.specs.Accesses.{access_of, is_at, access_key, word_behind}
 use Rattle.facts_memory.proofs.Numbers.{Moves, by_context, by_address, by_clock, limit}
 use Rattle.facts_memory.proofs.RowZeros.{CellsBelow, four}
 

@@ -1,13 +1,9 @@
 -- What values that are 0 say of a row, and of a row and the one after it.
-use Rattle.std.proofs.Common.{◌≡◌, ℕ, zero, suc, ◌+◌, ◌*◌, ◌<◌, ◌≤◌, List, [], ◌∷◌, slice_index, Option, Some, sym, ap, ◌∙◌, arith, lit<}
-use Rattle.vm_field.specs.Field.{prime, felt_add, felt_sub, felt_mul}
-use Rattle.vm_field.specs.Machine.{zero_word}
+use Rattle.facts_memory.proofs.Words.{◌≡◌, ℕ, zero, suc, ◌+◌, ◌*◌, ◌<◌, ◌≤◌, List, [], ◌∷◌, slice_index, Option, Some, sym, ap, ◌∙◌, arith, lit<, prime}
+use Rattle.facts_memory.proofs.Words.{felt_add, felt_sub, felt_mul, zero_word, family, access_values, entry_1, entry_5, goes_on_here, memory_values}
+use Rattle.facts_memory.proofs.Words.{order_step, step_of, word_values, Keeps, access_of, HasLimbs}
 use Rattle.vm_field.proofs.Algebra.{bit_from_product, same_from_sub}
 use Rattle.chip_columns.specs.MemoryColumns.{kind, ctx, addr, clk, v, n0, n1, d0, d1, a0, a1}
-use Rattle.air_kit.specs.Places.{family}
-use Rattle.air_kit.specs.MemoryValues.{access_values, entry_1, entry_5, goes_on_here, memory_values, order_step, step_of, word_values}
-use Rattle.facts_memory.specs.Accesses.{Keeps, access_of}
-use Rattle.facts_memory.specs.MemoryTables.{HasLimbs}
 use Rattle.facts_memory.proofs.Numbers.{Moves, address_from, kept_from, kind_from, limit, moves, read_from, step_from}
 
 -- each value is 0

@@ -1,15 +1,9 @@
 -- A table whose entries are 0 is the rows of its accesses.
-use Rattle.std.proofs.Common.{◌≡◌, ℕ, zero, suc, ◌+◌, ◌-◌, ◌*◌, ◌/◌, ◌%◌, ◌<◌, ◌==◌, true, false, cond, List, [], ◌∷◌, length, slice_index, slice_get, Option, Some, refl, sym, ap, ap₂, subst, ◌∙◌, arith}
-use Rattle.std.proofs.lemmas.Bool.{eq-eqb, ne_eqb}
-use Rattle.std.proofs.lemmas.List.{ext_get_or}
-use Rattle.std.proofs.lemmas.Option.{slice_get-get_or}
-use Rattle.vm_field.specs.Field.{prime, felt_add, felt_mul}
+use Rattle.facts_memory.proofs.Words.{◌≡◌, ℕ, zero, suc, ◌+◌, ◌-◌, ◌*◌, ◌/◌, ◌%◌, ◌<◌, ◌==◌, true, false, cond, List, [], ◌∷◌, length, slice_index, slice_get}
+use Rattle.facts_memory.proofs.Words.{Option, Some, refl, sym, ap, ap₂, subst, ◌∙◌, arith, eq-eqb, ne_eqb, ext_get_or, slice_get-get_or, prime, felt_add}
+use Rattle.facts_memory.proofs.Words.{felt_mul, Access, access_values, entry_1, entry_5, goes_on_here, memory_values, order_step, step_of, new_address}
+use Rattle.facts_memory.proofs.Words.{new_context, row_behind, step_behind, row_at, AreSmall, HasLimbs, HaveLimbs, MemoryIsZero, access_at}
 use Rattle.chip_columns.specs.MemoryColumns.{kind, ctx, addr, clk, v, n0, n1, d0, d1, a0, a1}
-use Rattle.air_kit.specs.declared.requests.Access.{Access}
-use Rattle.air_kit.specs.MemoryValues.{access_values, entry_1, entry_5, goes_on_here, memory_values, order_step, step_of}
-use Rattle.facts_memory.specs.AccessRows.{new_address, new_context, row_behind, step_behind}
-use Rattle.vm_table.specs.Layout.{row_at}
-use Rattle.facts_memory.specs.MemoryTables.{AreSmall, HasLimbs, HaveLimbs, MemoryIsZero, access_at}
 use Rattle.facts_memory.specs.TableRows.{AreAccessRows, first_row}
 use Rattle.facts_memory.proofs.Numbers.{Moves, address_from, by_address, by_clock, by_context, by_flags, first_alone, limit, over, over_below, second_alone, step_from, third_alone}
 use Rattle.facts_memory.proofs.RowZeros.{AllZero, CellsBelow, FirstSays, RowSays}

@@ -1,16 +1,9 @@
 -- The rows of accesses in order have entries 0.
-use Rattle.std.proofs.Common.{◌≡◌, ℕ, zero, suc, ◌<◌, ◌≤◌, ◌⊎◌, inl, inr, List, [], length, slice_get, Option, Some, None, option_map, refl, sym, ap, subst, ◌∙◌, arith}
-use Rattle.std.proofs.lemmas.Bool.{cases_lt}
-use Rattle.std.proofs.lemmas.Option.{slice_get-get_or, slice_get_past}
-use Rattle.vm_field.proofs.Elements.{word-of}
-use Rattle.vm_table.specs.Layout.{IsTable, row_at}
+use Rattle.facts_memory.proofs.Words.{◌≡◌, ℕ, zero, suc, ◌<◌, ◌≤◌, ◌⊎◌, inl, inr, List, [], length, slice_get, Option, Some, None, option_map, refl, sym, ap}
+use Rattle.facts_memory.proofs.Words.{subst, ◌∙◌, arith, cases_lt, slice_get-get_or, slice_get_past, word-of, IsTable, row_at, family, access_values, entry_1}
+use Rattle.facts_memory.proofs.Words.{entry_5, goes_on_here, memory_values, order_step, step_of, word_values, spot_of, Access, row_behind, AreOrdered}
+use Rattle.facts_memory.proofs.Words.{AreSmall, MemoryIsZero, access_at, access_before}
 use Rattle.chip_columns.specs.MemoryColumns.{d0, d1}
-use Rattle.air_kit.specs.Places.{family}
-use Rattle.air_kit.specs.MemoryValues.{access_values, entry_1, entry_5, goes_on_here, memory_values, order_step, step_of, word_values}
-use Rattle.air_kit.specs.Traces.{spot_of}
-use Rattle.air_kit.specs.declared.requests.Access.{Access}
-use Rattle.facts_memory.specs.AccessRows.{row_behind}
-use Rattle.facts_memory.specs.MemoryTables.{AreOrdered, AreSmall, MemoryIsZero, access_at, access_before}
 use Rattle.facts_memory.specs.TableRows.{AreAccessRows, first_row}
 use Rattle.facts_memory.proofs.BehindZero.{NextFits, row_zero}
 use Rattle.facts_memory.proofs.Fitting.{FitsBehind, Follows, IsShown}

@@ -1,21 +1,11 @@
 -- The rows of accesses give these, and so do those of the same accesses in another order.
-use Rattle.std.proofs.Common.{◌≡◌, ℕ, ◌+◌, List, [], ◌∷◌, map, length, Option, Some, None, refl, sym, ap, ap₂, ◌∙◌, arith}
-use Rattle.std.specs.List.{sum_by}
-use Rattle.std.specs.List.Sorted.{IsPermutation}
-use Rattle.std.proofs.lemmas.List.Sorted.{sum_by-IsPermutation}
-use Rattle.std.proofs.lemmas.List.Sums.{sum_by-cons}
-use Rattle.vm_field.specs.Machine.{IsWord}
-use Rattle.vm_field.proofs.Elements.{word-again}
+use Rattle.facts_memory.proofs.Words.{◌≡◌, ℕ, ◌+◌, List, [], ◌∷◌, map, length, Option, Some, None, refl, sym, ap, ap₂, ◌∙◌, arith, sum_by, IsPermutation}
+use Rattle.facts_memory.proofs.Words.{sum_by-IsPermutation, sum_by-cons, IsWord, word-again, total-front, Access, access_given, access_of, row_behind}
+use Rattle.facts_memory.proofs.Words.{rows_behind, access_at}
 use Rattle.buses.specs.Counts.{counted, hits, over_rows, total}
 use Rattle.buses.specs.declared.bus.Bus.TheVariants as bus
-use Rattle.buses.proofs.Counting.{total-front}
-use Rattle.air_kit.specs.declared.requests.Access.{Access}
 use Rattle.air_kit.specs.declared.trace.TableName.TheVariants as table
 use Rattle.air_kit.specs.ChipTuples.{chip_given}
-use Rattle.air_kit.specs.Requests.{access_given}
-use Rattle.facts_memory.specs.Accesses.{access_of}
-use Rattle.facts_memory.specs.AccessRows.{row_behind, rows_behind}
-use Rattle.facts_memory.specs.MemoryTables.{access_at}
 use Rattle.facts_memory.proofs.Asked.{given_is, rows_give, same_fields, tuple_of}
 use Rattle.facts_memory.proofs.RowsZero.{Linked}
 

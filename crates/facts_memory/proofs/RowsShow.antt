@@ -1,11 +1,6 @@
 -- The rows of accesses that fit, put in order, show these.
-use Rattle.std.proofs.Common.{List, None, ◌∙◌}
-use Rattle.std.specs.List.Sorted.{IsNonDecreasingBy, IsPermutation}
-use Rattle.std.proofs.lemmas.List.Sorted.{length_permutation}
-use Rattle.air_kit.specs.declared.requests.Access.{Access}
-use Rattle.facts_memory.specs.Accesses.{access_key}
-use Rattle.facts_memory.specs.AccessRows.{rows_of_accesses}
-use Rattle.facts_memory.specs.MemoryTables.{AccessesFit, ShowsAccesses}
+use Rattle.facts_memory.proofs.Words.{List, None, ◌∙◌, IsNonDecreasingBy, IsPermutation, length_permutation, Access, access_key, rows_of_accesses}
+use Rattle.facts_memory.proofs.Words.{AccessesFit, ShowsAccesses}
 use Rattle.facts_memory.proofs.RowsGive.{sorted_give}
 use Rattle.facts_memory.proofs.RowsZero.{Linked, rows_limbs, rows_size, rows_zero}
 use Rattle.facts_memory.proofs.SortedFit.{sorted_linked}

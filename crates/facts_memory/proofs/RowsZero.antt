@@ -1,14 +1,8 @@
 -- The rows of accesses of which each fits behind the one before: a table whose values are 0 and whose limbs have 16 bits.
-use Rattle.std.proofs.Common.{◌≡◌, ℕ, zero, suc, ◌/◌, ◌%◌, ◌<◌, ◌≤◌, List, [], ◌∷◌, All, length, slice_get, slice_index, slice_index_or, Option, Some, None, option_map, refl, sym, ap, subst, arith, lit<}
-use Rattle.std.proofs.lemmas.List.Elements.{All-cons, All-nil}
-use Rattle.vm_field.specs.Field.{prime}
-use Rattle.vm_field.proofs.Elements.{elements-index}
-use Rattle.vm_table.specs.Layout.{IsTable}
-use Rattle.air_kit.specs.Places.{at_number}
-use Rattle.air_kit.specs.MemoryValues.{memory_values}
-use Rattle.air_kit.specs.declared.requests.Access.{Access}
-use Rattle.facts_memory.specs.AccessRows.{new_address, new_context, row_behind, rows_behind, step_behind}
-use Rattle.facts_memory.specs.MemoryTables.{HasLimbs, HaveLimbs, MemoryIsZero}
+use Rattle.facts_memory.proofs.Words.{◌≡◌, ℕ, zero, suc, ◌/◌, ◌%◌, ◌<◌, ◌≤◌, List, [], ◌∷◌, All, length, slice_get, slice_index, slice_index_or, Option, Some}
+use Rattle.facts_memory.proofs.Words.{None, option_map, refl, sym, ap, subst, arith, lit<, All-cons, All-nil, prime, elements-index, IsTable, at_number}
+use Rattle.facts_memory.proofs.Words.{memory_values, Access, new_address, new_context, row_behind, rows_behind, step_behind, HasLimbs, HaveLimbs}
+use Rattle.facts_memory.proofs.Words.{MemoryIsZero}
 use Rattle.facts_memory.proofs.BehindZero.{NextFits, flags_zero, row_zero}
 use Rattle.facts_memory.proofs.Entries.{high_small, low_small}
 use Rattle.facts_memory.proofs.Fitting.{FitsBehind}

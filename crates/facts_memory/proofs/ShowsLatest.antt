@@ -1,12 +1,8 @@
 -- Of rows in order, each shows the word of the last earlier row of its place.
-use Rattle.std.proofs.Common.{◌≡◌, ℕ, zero, suc, ◌<◌, ◌≤◌, ◌⊎◌, inl, inr, true, false, cond, List, [], length, map, slice_index_or, Some, sym, ap, subst, ◌∙◌, arith}
-use Rattle.std.proofs.lemmas.Bool.{cases_Bool, cases_lt}
-use Rattle.std.proofs.lemmas.List.{get_or-map, get_or_past, length-map}
-use Rattle.vm_field.specs.Machine.{zero_word}
-use Rattle.air_kit.specs.declared.requests.Access.{Access}
-use Rattle.air_kit.specs.Requests.{IsEarlier, IsWordBefore, last, never}
-use Rattle.facts_memory.specs.Accesses.{Keeps, access_of, is_at, access_key, word_behind}
-use Rattle.facts_memory.specs.MemoryTables.{AreOrdered, AreSmall, HaveLimbs, MemoryIsZero, ShowLatest, access_at}
+use Rattle.facts_memory.proofs.Words.{◌≡◌, ℕ, zero, suc, ◌<◌, ◌≤◌, ◌⊎◌, inl, inr, true, false, cond, List, [], length, map, slice_index_or, Some, sym, ap}
+use Rattle.facts_memory.proofs.Words.{subst, ◌∙◌, arith, cases_Bool, cases_lt, get_or-map, get_or_past, length-map, zero_word, Access, IsEarlier}
+use Rattle.facts_memory.proofs.Words.{IsWordBefore, last, never, Keeps, access_of, is_at, access_key, word_behind, AreOrdered, AreSmall, HaveLimbs}
+use Rattle.facts_memory.proofs.Words.{MemoryIsZero, ShowLatest, access_at}
 use Rattle.facts_memory.proofs.InOrder.{rows_from_keys}
 use Rattle.facts_memory.proofs.Keys.{between, key_of_place, rise_to}
 use Rattle.facts_memory.proofs.Latest.{place_is}

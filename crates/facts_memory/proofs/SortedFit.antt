@@ -1,12 +1,7 @@
 -- Of accesses that fit, put in order, each fits behind the one before.
-use Rattle.std.proofs.Common.{◌≡◌, ℕ, suc, ◌<◌, ◌⊎◌, inl, inr, true, false, cond, List, [], ◌∷◌, drop, length, slice_index_or, Option, Some, None, sym, ap, subst, ◌∙◌, arith}
-use Rattle.std.specs.List.Sorted.{IsNonDecreasingBy, IsPermutation}
-use Rattle.std.proofs.lemmas.Bool.{cases_Bool}
-use Rattle.vm_field.specs.Machine.{zero_word}
-use Rattle.air_kit.specs.declared.requests.Access.{Access}
-use Rattle.air_kit.specs.Requests.{FitsMemory}
-use Rattle.facts_memory.specs.Accesses.{Keeps, is_at, access_key, word_behind}
-use Rattle.facts_memory.specs.MemoryTables.{AccessesFit}
+use Rattle.facts_memory.proofs.Words.{◌≡◌, ℕ, suc, ◌<◌, ◌⊎◌, inl, inr, true, false, cond, List, [], ◌∷◌, drop, length, slice_index_or, Option, Some, None}
+use Rattle.facts_memory.proofs.Words.{sym, ap, subst, ◌∙◌, arith, IsNonDecreasingBy, IsPermutation, cases_Bool, zero_word, Access, FitsMemory, Keeps, is_at}
+use Rattle.facts_memory.proofs.Words.{access_key, word_behind, AccessesFit}
 use Rattle.facts_memory.proofs.Fitting.{FitsBehind, Follows}
 use Rattle.facts_memory.proofs.RowsZero.{Linked}
 use Rattle.facts_memory.proofs.SortedKeys.{IsInOrder, fits_at, follows_from, shown_at, strict}

@@ -1,12 +1,6 @@
 -- Accesses that fit, put in order: what each is, and that their keys rise.
-use Rattle.std.proofs.Common.{◌≡◌, ℕ, suc, ◌+◌, ◌*◌, ◌<◌, ◌≤◌, ◌^◌, ◌⊎◌, inl, inr, List, length, slice_index_or, arith}
-use Rattle.std.specs.List.Sorted.{IsNonDecreasingBy, IsPermutation}
-use Rattle.std.proofs.lemmas.Bool.{cases_lt, cases_order}
-use Rattle.std.proofs.lemmas.List.Sorted.{All-permutation}
-use Rattle.air_kit.specs.declared.requests.Access.{Access}
-use Rattle.air_kit.specs.Requests.{FitsMemory}
-use Rattle.facts_memory.specs.Accesses.{access_key}
-use Rattle.facts_memory.specs.MemoryTables.{AccessesFit, IsSmallAccess}
+use Rattle.facts_memory.proofs.Words.{◌≡◌, ℕ, suc, ◌+◌, ◌*◌, ◌<◌, ◌≤◌, ◌^◌, ◌⊎◌, inl, inr, List, length, slice_index_or, arith, IsNonDecreasingBy}
+use Rattle.facts_memory.proofs.Words.{IsPermutation, cases_lt, cases_order, All-permutation, Access, FitsMemory, access_key, AccessesFit, IsSmallAccess}
 use Rattle.facts_memory.proofs.Clocks.{fit_apart, sorted_apart}
 use Rattle.facts_memory.proofs.Fitting.{Follows, IsShown, address, clock, context}
 use Rattle.facts_memory.proofs.Keys.{Rises}

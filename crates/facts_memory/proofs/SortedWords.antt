@@ -1,14 +1,7 @@
 -- Of accesses that fit, put in order, the word before each is that of the one before, or zeros.
-use Rattle.std.proofs.Common.{◌≡◌, ℕ, suc, ◌<◌, ◌≤◌, ◌⊎◌, inl, inr, true, false, List, length, slice_index_or, refl, sym, ap, subst, ◌∙◌, arith}
-use Rattle.std.specs.List.{Contains}
-use Rattle.std.proofs.lemmas.Bool.{cases_lt}
-use Rattle.std.proofs.lemmas.List.{get_or_default, get_or_past}
-use Rattle.std.proofs.lemmas.List.Elements.{Contains-get_or}
-use Rattle.std.proofs.lemmas.List.Sorted.{Contains-permutation, IsPermutation-sym}
-use Rattle.vm_field.specs.Machine.{zero_word}
-use Rattle.air_kit.specs.declared.requests.Access.{Access}
-use Rattle.air_kit.specs.Requests.{IsEarlier, IsWordBefore, last, never}
-use Rattle.facts_memory.specs.Accesses.{is_at, access_key}
+use Rattle.facts_memory.proofs.Words.{◌≡◌, ℕ, suc, ◌<◌, ◌≤◌, ◌⊎◌, inl, inr, true, false, List, length, slice_index_or, refl, sym, ap, subst, ◌∙◌, arith}
+use Rattle.facts_memory.proofs.Words.{Contains, cases_lt, get_or_default, get_or_past, Contains-get_or, Contains-permutation, IsPermutation-sym, zero_word}
+use Rattle.facts_memory.proofs.Words.{Access, IsEarlier, IsWordBefore, last, never, is_at, access_key}
 use Rattle.facts_memory.proofs.Keys.{between, clock_of_place, key_of_place, rise, rise_back, rise_to}
 use Rattle.facts_memory.proofs.Latest.{place_is}
 use Rattle.facts_memory.proofs.RowOrder.{at_same}

@@ -1,10 +1,6 @@
 -- A table whose entries are 0 serves the accesses that it gives.
-use Rattle.std.proofs.Common.{◌≡◌, ℕ, ◌<◌, ◌^◌, List, length, Option, inl, inr, sym, ap, subst, arith}
-use Rattle.std.proofs.lemmas.Bool.{cases_lt}
-use Rattle.air_kit.specs.declared.requests.Access.{Access}
-use Rattle.facts_memory.specs.Accesses.{Keeps, access_key}
-use Rattle.facts_memory.specs.MemoryTables.{AreOrdered, AreSmall, HaveLimbs, MemoryIsZero, access_at}
-use Rattle.facts_memory.specs.Serving.{AreAsks, ArePaired, AreServed, GivesAsks, HasRow}
+use Rattle.facts_memory.proofs.Words.{◌≡◌, ℕ, ◌<◌, ◌^◌, List, length, Option, inl, inr, sym, ap, subst, arith, cases_lt, Access, Keeps, access_key}
+use Rattle.facts_memory.proofs.Words.{AreOrdered, AreSmall, HaveLimbs, MemoryIsZero, access_at, AreAsks, ArePaired, AreServed, GivesAsks, HasRow}
 use Rattle.facts_memory.proofs.Asked.{are_asked, rows_small}
 use Rattle.facts_memory.proofs.InOrder.{InTable, keep_latest, keys_rise}
 use Rattle.facts_memory.proofs.Latest.{memory_latest}

@@ -1,12 +1,6 @@
 -- A table whose entries are 0 is ordered.
-use Rattle.std.proofs.Common.{◌≡◌, ℕ, zero, suc, ◌<◌, List, [], length, slice_get, subst, arith}
-use Rattle.std.proofs.lemmas.Option.{slice_get-get_or}
-use Rattle.air_kit.specs.Places.{at_number}
-use Rattle.air_kit.specs.MemoryValues.{memory_values}
-use Rattle.air_kit.specs.Traces.{spot_of}
-use Rattle.facts_memory.specs.Accesses.{Keeps, word_behind}
-use Rattle.vm_table.specs.Layout.{row_at}
-use Rattle.facts_memory.specs.MemoryTables.{AreOrdered, AreSmall, HaveLimbs, MemoryIsZero, access_at, access_before}
+use Rattle.facts_memory.proofs.Words.{◌≡◌, ℕ, zero, suc, ◌<◌, List, [], length, slice_get, subst, arith, slice_get-get_or, at_number, memory_values, spot_of}
+use Rattle.facts_memory.proofs.Words.{Keeps, word_behind, row_at, AreOrdered, AreSmall, HaveLimbs, MemoryIsZero, access_at, access_before}
 use Rattle.facts_memory.proofs.RowZeros.{AllZero, CellsBelow, FirstSays, NextSays, RowSays, first_says, next_says, row_says}
 use Rattle.facts_memory.proofs.RowOrder.{rows_grow, word_is}
 

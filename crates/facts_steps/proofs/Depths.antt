@@ -1,17 +1,7 @@
 -- How deep the stack is behind an operation, and the key of the first cell below the sixteenth.
-use Rattle.std.proofs.Common.{◌≡◌, ℕ, ◌+◌, ◌-◌, ◌^◌, ◌<◌, true, ◌||◌, not, List, ◌∷◌, length, refl, ap, sym, ◌∙◌, ⊎_elim, arith}
-use Rattle.std.proofs.lemmas.List.{length-drop}
-use Rattle.vm_field.specs.Field.{felt_add, felt_sub}
-use Rattle.vm_ops.specs.Moves.{shift_of}
-use Rattle.vm_ops.specs.declared.op.Op.{Op}
-use Rattle.vm_ops.specs.declared.op.Shift.{Shift}
-use Rattle.vm_ops.specs.declared.op.Shift.TheVariants.{Left, Stay, Right}
-use Rattle.vm_table.specs.MainColumns.{s, depth}
-use Rattle.air_kit.specs.Flags.{is_left, is_shift}
-use Rattle.air_kit.specs.RowStates.{Elsewhere}
-use Rattle.facts_main.proofs.Says.{off, either_or}
-use Rattle.facts_main.specs.Stack.{MovesDepth, mover, keeps_stack}
-use Rattle.facts_steps.specs.Filling.{FilledBy}
+use Rattle.facts_steps.proofs.Words.{◌≡◌, ℕ, ◌+◌, ◌-◌, ◌^◌, ◌<◌, true, ◌||◌, not, List, ◌∷◌, length, refl, ap, sym, ◌∙◌, ⊎_elim, arith, length-drop, felt_add}
+use Rattle.facts_steps.proofs.Words.{felt_sub, shift_of, Op, Shift, Left, Stay, Right, s, depth, is_left, is_shift, Elsewhere, off, either_or, MovesDepth}
+use Rattle.facts_steps.proofs.Words.{mover, keeps_stack, FilledBy}
 use Rattle.facts_steps.proofs.Ordinary.{IsOrdinary, mover_is, keeps_is}
 use Rattle.facts_steps.proofs.Shifts.{Behind}
 

@@ -1,27 +1,11 @@
 -- A step fills rows whose facts hold.
-use Rattle.std.proofs.Common.{◌≡◌, ℕ, ◌+◌, ◌^◌, ◌<◌, ◌≤◌, Bool, true, false, eqb, List, ◌++◌, drop, length, slice_index, Ok, ap, ap₂, sym, subst, ◌∙◌, arith, lit<}
-use Rattle.std.proofs.lemmas.List.{take-append-drop, length-drop}
+use Rattle.facts_steps.proofs.Words.{◌≡◌, ℕ, ◌+◌, ◌^◌, ◌<◌, ◌≤◌, Bool, true, false, eqb, List, ◌++◌, drop, length, slice_index, Ok, ap, ap₂, sym, subst, ◌∙◌}
+use Rattle.facts_steps.proofs.Words.{arith, lit<, take-append-drop, length-drop, number_of_constants, prime, felt_add, State, IsWellFormed, trap_of-shown}
+use Rattle.facts_steps.proofs.Words.{stepped, step-depth, is_ordinary_op, reads_elsewhere, IsOrdinaryItem, leaves_of, IsSeenBy, memory_with, step, Stepped}
+use Rattle.facts_steps.proofs.Words.{Seen, bit_of, Item, Op, clk, ctx, sys, s, depth, Elsewhere, state_of, taken_by, written_by, cells, seen_of, left_value}
+use Rattle.facts_steps.proofs.Words.{ShiftsCells, ShowsState, FilledBy, FillsRows, elsewhere_of}
 use Rattle.vm_field.proofs.Elements.{elements-index}
-use Rattle.vm_field.specs.Limits.{number_of_constants}
-use Rattle.vm_field.specs.Field.{prime, felt_add}
-use Rattle.vm_field.specs.Machine.{State, IsWellFormed}
 use Rattle.vm_ops.proofs.FrameLemmas.{step-same_call}
-use Rattle.vm_ops.proofs.ShownLemmas.{trap_of-shown}
-use Rattle.vm_ops.proofs.StepLemmas.{stepped, step-depth}
-use Rattle.vm_ops.specs.Codes.{is_ordinary_op, reads_elsewhere}
-use Rattle.vm_ops.specs.Items.{IsOrdinaryItem}
-use Rattle.vm_ops.specs.Moves.{leaves_of}
-use Rattle.vm_ops.specs.Sizes.{IsSeenBy}
-use Rattle.vm_ops.specs.Step.{memory_with, step}
-use Rattle.vm_ops.specs.Stepping.{Stepped}
-use Rattle.vm_ops.specs.Values.{Seen, bit_of}
-use Rattle.vm_ops.specs.declared.item.Item.{Item}
-use Rattle.vm_ops.specs.declared.op.Op.{Op}
-use Rattle.vm_table.specs.MainColumns.{clk, ctx, sys, s, depth}
-use Rattle.air_kit.specs.RowStates.{Elsewhere, state_of, taken_by, written_by}
-use Rattle.air_kit.specs.StackValues.{cells, seen_of, left_value}
-use Rattle.facts_main.specs.Stack.{ShiftsCells}
-use Rattle.facts_steps.specs.Filling.{ShowsState, FilledBy, FillsRows, elsewhere_of}
 use Rattle.facts_steps.proofs.Depths.{depth_filled}
 use Rattle.facts_steps.proofs.Frames.{frame_filled, written_is, memory_is}
 use Rattle.facts_steps.proofs.Ordinary.{ordinary, ordinary_row, mover_is}

@@ -1,20 +1,10 @@
 -- What an ordinary operation does to the state beside its stack.
-use Rattle.std.proofs.Common.{◌≡◌, ℕ, zero, suc, ◌<◌, Bool, true, false, ◌||◌, not, cond, List, [], ◌∷◌, ◌++◌, drop, slice_index, Option, Some, None, refl, ap, sym, ◌∙◌, arith}
-use Rattle.vm_field.specs.Field.{felt_add}
-use Rattle.vm_field.specs.Machine.{WordMap}
-use Rattle.vm_ops.specs.Step.{memory_with}
-use Rattle.vm_ops.specs.Values.{Seen, cell, fmp_after, written, advice_of}
-use Rattle.vm_ops.specs.declared.item.Item.{Item}
-use Rattle.vm_ops.specs.declared.op.Op.{Op}
+use Rattle.facts_steps.proofs.Words.{◌≡◌, ℕ, zero, suc, ◌<◌, Bool, true, false, ◌||◌, not, cond, List, [], ◌∷◌, ◌++◌, drop, slice_index, Option, Some, None}
+use Rattle.facts_steps.proofs.Words.{refl, ap, sym, ◌∙◌, arith, felt_add, WordMap, memory_with, Seen, cell, fmp_after, written, advice_of, Item, Op, fmp, ctx}
+use Rattle.facts_steps.proofs.Words.{sys, f, s, t, lv, addr, is_op, is_call_op, Elsewhere, taken_by, written_by, memory_behind, cells, function_digest, off}
+use Rattle.facts_steps.proofs.Words.{never, word_before}
 use Rattle.vm_ops.specs.declared.op.Op.TheVariants as ops
-use Rattle.vm_table.specs.MainColumns.{fmp, ctx, sys, f, s, t, lv, addr}
-use Rattle.air_kit.specs.Flags.{is_op}
-use Rattle.air_kit.specs.MainTuples.{is_call_op}
-use Rattle.air_kit.specs.RowStates.{Elsewhere, taken_by, written_by, memory_behind}
-use Rattle.air_kit.specs.StackValues.{cells, function_digest}
-use Rattle.facts_main.proofs.Says.{off, never}
 use Rattle.facts_main.specs.Blocks.{KeepsBlock, keeps_frame, ends_call}
-use Rattle.facts_steps.specs.Lookups.{word_before}
 use Rattle.facts_steps.proofs.Ordinary.{IsOrdinary, stays, digest_stays, frame_stays, level_stays}
 use Rattle.facts_steps.proofs.Seeing.{seen_by}
 

@@ -1,17 +1,8 @@
 -- What an operation needs of its operands stands where it does not trap.
-use Rattle.std.proofs.Common.{◌≡◌, ◌≢◌, ℕ, ◌^◌, ◌<◌, true, ◌&&◌, not, eqb, nat_lt, List, Option, Some, None, refl}
-use Rattle.vm_ops.specs.Codes.{accesses_memory}
-use Rattle.vm_ops.specs.Values.{trap_of, unless, or_else}
-use Rattle.vm_ops.specs.declared.cause.Cause.{Cause}
+use Rattle.facts_steps.proofs.Words.{◌≡◌, ◌≢◌, ℕ, ◌^◌, ◌<◌, true, ◌&&◌, not, eqb, nat_lt, List, Option, Some, None, refl, accesses_memory, trap_of, unless}
+use Rattle.facts_steps.proofs.Words.{or_else, Cause, Op, sys, s, is_op, cells, seen_of, off, has_third, tests_top, tests_two}
 use Rattle.vm_ops.specs.declared.cause.Cause.TheVariants.{NotBinary, ZeroInverse, AddressRange, NotInSyscall, NotU32, DivideByZero, AssertFailed}
-use Rattle.vm_ops.specs.declared.op.Op.{Op}
 use Rattle.vm_ops.specs.declared.op.Op.TheVariants as ops
-use Rattle.vm_table.specs.MainColumns.{sys, s}
-use Rattle.air_kit.specs.Flags.{is_op}
-use Rattle.air_kit.specs.StackValues.{cells, seen_of}
-use Rattle.facts_main.proofs.Says.{off}
-use Rattle.facts_main.specs.Limbs.{has_third}
-use Rattle.facts_main.specs.Stack.{tests_top, tests_two}
 use Rattle.facts_steps.proofs.Traps.{Runs, takes_words, holds_unless, first_of, second_of, less_is, same_is, other_is}
 
 of_two : {A : Type 0} (a b : ℕ) → unless (nat_lt a (2 ^ 32) && nat_lt b (2 ^ 32)) NotU32 ≡ None → (a < 2 ^ 32 → b < 2 ^ 32 → A) → A

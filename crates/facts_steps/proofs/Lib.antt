@@ -21,3 +21,4 @@ pub mod StackFills
 pub mod OutsideFills
 pub mod Fills
 pub mod Places
+pub mod Words

@@ -1,14 +1,7 @@
 -- Where limbs have 16 bits, what rows show of elements is so of the numbers.
-use Rattle.std.proofs.Common.{◌≡◌, ℕ, ◌+◌, ◌-◌, ◌*◌, ◌^◌, ◌<◌, ◌≤◌, true, List, refl, ap, sym, ◌∙◌, arith, lit<}
-use Rattle.vm_field.specs.Field.{prime, felt_add}
-use Rattle.vm_ops.specs.declared.op.Op.{Op}
+use Rattle.facts_steps.proofs.Words.{◌≡◌, ℕ, ◌+◌, ◌-◌, ◌*◌, ◌^◌, ◌<◌, ◌≤◌, true, List, refl, ap, sym, ◌∙◌, arith, lit<, prime, felt_add, Op, s, t, w, is_op}
+use Rattle.facts_steps.proofs.Words.{limbs, two_left, off, IsLimbRow, MovesLimbs, LooksUpLimbs}
 use Rattle.vm_ops.specs.declared.op.Op.TheVariants as ops
-use Rattle.vm_table.specs.MainColumns.{s, t, w}
-use Rattle.air_kit.specs.Flags.{is_op}
-use Rattle.air_kit.specs.U32Values.{limbs, two_left}
-use Rattle.facts_main.proofs.Says.{off}
-use Rattle.facts_main.specs.Limbs.{IsLimbRow, MovesLimbs}
-use Rattle.facts_steps.specs.Lookups.{LooksUpLimbs}
 use Rattle.facts_steps.specs.Numbers.{AreWords, ShowsNumbers}
 use Rattle.facts_steps.proofs.Numbers.{sum_is, sum_three_is, whole_below, whole_is}
 use Rattle.facts_steps.proofs.Products.{Divided, divided_from, divided_whole, divisor_is, product_is, product_sum_is}

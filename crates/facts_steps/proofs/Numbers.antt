@@ -1,9 +1,6 @@
 -- Numbers of 32 bits and their limbs of 16 bits, as elements; their sums and differences.
-use Rattle.std.proofs.Common.{◌≡◌, ◌≢◌, ℕ, ◌+◌, ◌-◌, ◌*◌, ◌/◌, ◌%◌, ◌^◌, ◌<◌, ◌≤◌, ⊎_elim, Bool, true, false, cond, nat_lt, refl, ap, sym, ◌∙◌, arith}
-use Rattle.std.proofs.lemmas.Bool.Decides.{nat_tests}
-use Rattle.vm_field.specs.Field.{prime, felt_add, felt_sub, felt_mul, felt_inv}
-use Rattle.vm_field.proofs.Inverses.{felt_mul-felt_inv}
-use Rattle.facts_main.proofs.Says.{either_or, none_is}
+use Rattle.facts_steps.proofs.Words.{◌≡◌, ◌≢◌, ℕ, ◌+◌, ◌-◌, ◌*◌, ◌/◌, ◌%◌, ◌^◌, ◌<◌, ◌≤◌, ⊎_elim, Bool, true, false, cond, nat_lt, refl, ap, sym, ◌∙◌, arith}
+use Rattle.facts_steps.proofs.Words.{nat_tests, prime, felt_add, felt_sub, felt_mul, felt_inv, felt_mul-felt_inv, either_or, none_is}
 
 -- ---- limbs
 

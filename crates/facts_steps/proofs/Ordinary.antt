@@ -1,15 +1,8 @@
 -- What no ordinary operation is.
-use Rattle.std.proofs.Common.{◌≡◌, ℕ, Bool, true, false, ◌&&◌, ◌||◌, not, cond, eqb, List, refl, ap, sym, ◌∙◌}
-use Rattle.vm_ops.specs.Codes.{is_ordinary_op, is_start_op}
-use Rattle.vm_ops.specs.declared.op.Op.{Op}
+use Rattle.facts_steps.proofs.Words.{◌≡◌, ℕ, Bool, true, false, ◌&&◌, ◌||◌, not, cond, eqb, List, refl, ap, sym, ◌∙◌, is_ordinary_op, is_start_op, Op, h, sys}
+use Rattle.facts_steps.proofs.Words.{felt_add, felt_sub, is_op, is_left, is_right, is_call_op, never, off, mover, keeps_stack}
 use Rattle.vm_ops.specs.declared.op.Op.TheVariants as ops
-use Rattle.vm_table.specs.MainColumns.{h, sys}
-use Rattle.vm_field.specs.Field.{felt_add, felt_sub}
-use Rattle.air_kit.specs.Flags.{is_op, is_left, is_right}
-use Rattle.air_kit.specs.MainTuples.{is_call_op}
-use Rattle.facts_main.proofs.Says.{never, off}
 use Rattle.facts_main.specs.Blocks.{IsBlockRow, ends_call, stays_in_function, keeps_digest, keeps_frame, keeps_block, level_after}
-use Rattle.facts_main.specs.Stack.{mover, keeps_stack}
 
 pub record IsOrdinary (op : Op) : Type 0 where
   pub not_end : is_op op ops.End ≡ false

@@ -1,16 +1,7 @@
 -- The operations that read what no row shows: memory, the tape, an immediate or the permutation.
-use Rattle.std.proofs.Common.{◌≡◌, ℕ, true, List, [], ◌∷◌, ◌++◌, take, reverse, slice_index, refl, ap, sym}
-use Rattle.vm_ops.specs.Codes.{reads_elsewhere}
-use Rattle.vm_ops.specs.Moves.{leaves_of}
-use Rattle.vm_ops.specs.Step.{left_cells}
-use Rattle.vm_ops.specs.Values.{computed}
-use Rattle.vm_ops.specs.declared.op.Op.{Op}
+use Rattle.facts_steps.proofs.Words.{◌≡◌, ℕ, true, List, [], ◌∷◌, ◌++◌, take, reverse, slice_index, refl, ap, sym, reads_elsewhere, leaves_of, left_cells}
+use Rattle.facts_steps.proofs.Words.{computed, Op, Elsewhere, taken_by, cells, off, item_of, Lookups}
 use Rattle.vm_ops.specs.declared.op.Op.TheVariants as ops
-use Rattle.air_kit.specs.RowStates.{Elsewhere, taken_by}
-use Rattle.air_kit.specs.StackValues.{cells}
-use Rattle.facts_main.proofs.Says.{off}
-use Rattle.facts_steps.specs.Joined.{item_of}
-use Rattle.facts_steps.specs.Lookups.{Lookups}
 use Rattle.facts_steps.proofs.Seeing.{seen_by}
 
 pub outside_left : (constants : List ℕ) (op : Op) (x y : List ℕ) (e : Elsewhere) (rest : List ℕ) → reads_elsewhere op ≡ true

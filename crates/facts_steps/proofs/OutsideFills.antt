@@ -1,25 +1,11 @@
 -- The operations that read what no row shows: what they leave shows it.
-use Rattle.std.proofs.Common.{◌≡◌, ◌≢◌, ℕ, ◌^◌, ◌<◌, Bool, true, false, ◌||◌, cond, List, [], ◌∷◌, ◌++◌, take, drop, reverse, length, slice_index, Option, Some, None, unwrap_or, refl, ap, ap₂, sym, ◌∙◌, arith, append-nil}
-use Rattle.std.proofs.lemmas.List.{reverse-reverse, take-append-drop}
+use Rattle.facts_steps.proofs.Words.{◌≡◌, ◌≢◌, ℕ, ◌^◌, ◌<◌, Bool, true, false, ◌||◌, cond, List, [], ◌∷◌, ◌++◌, take, drop, reverse, length, slice_index}
+use Rattle.facts_steps.proofs.Words.{Option, Some, None, unwrap_or, refl, ap, ap₂, sym, ◌∙◌, arith, append-nil, reverse-reverse, take-append-drop, prime}
+use Rattle.facts_steps.proofs.Words.{accesses_memory, IsOrdinaryItem, leaves_of, left_cells, computed, advice_of, Item, Op, s, t, is_op, twelve, Elsewhere}
+use Rattle.facts_steps.proofs.Words.{taken_by, cells, off, item_of, LooksUpWord, word_before}
 use Rattle.std.specs.Option.{MatchOption}
-use Rattle.vm_field.specs.Field.{prime}
 use Rattle.vm_field.specs.Permutation.{permuted}
-use Rattle.vm_ops.specs.Codes.{accesses_memory}
-use Rattle.vm_ops.specs.Items.{IsOrdinaryItem}
-use Rattle.vm_ops.specs.Moves.{leaves_of}
-use Rattle.vm_ops.specs.Step.{left_cells}
-use Rattle.vm_ops.specs.Values.{computed, advice_of}
-use Rattle.vm_ops.specs.declared.item.Item.{Item}
-use Rattle.vm_ops.specs.declared.op.Op.{Op}
 use Rattle.vm_ops.specs.declared.op.Op.TheVariants as ops
-use Rattle.vm_table.specs.MainColumns.{s, t}
-use Rattle.air_kit.specs.Flags.{is_op}
-use Rattle.air_kit.specs.MainTuples.{twelve}
-use Rattle.air_kit.specs.RowStates.{Elsewhere, taken_by}
-use Rattle.air_kit.specs.StackValues.{cells}
-use Rattle.facts_main.proofs.Says.{off}
-use Rattle.facts_steps.specs.Joined.{item_of}
-use Rattle.facts_steps.specs.Lookups.{LooksUpWord, word_before}
 use Rattle.facts_steps.proofs.Seeing.{seen_by}
 
 -- a list that is turned

@@ -1,24 +1,12 @@
 -- What the rows of a table do not show, from one row to the next.
-use Rattle.std.proofs.Common.{◌≡◌, ◌≢◌, ℕ, zero, suc, ◌+◌, ◌<◌, Bool, true, false, ◌&&◌, ◌||◌, cond, eqb, List, [], ◌∷◌, ◌++◌, drop, length, slice_index, refl, ap, sym, subst, ◌∙◌, ⊎_elim, arith}
-use Rattle.std.proofs.lemmas.Bool.Decides.{nat_tests}
-use Rattle.std.proofs.lemmas.List.{nil_from_length}
-use Rattle.vm_ops.specs.Moves.{shift_of}
-use Rattle.vm_ops.specs.declared.op.Op.{Op}
-use Rattle.vm_ops.specs.declared.op.Shift.{Shift}
-use Rattle.vm_ops.specs.declared.op.Shift.TheVariants.{Left, Stay, Right}
-use Rattle.vm_table.specs.MainColumns.{h, s, depth}
-use Rattle.vm_field.specs.Limits.{number_of_constants}
-use Rattle.vm_field.specs.Field.{felt_add}
-use Rattle.air_kit.specs.Flags.{is_left, is_right, is_shift, op_of}
-use Rattle.air_kit.specs.MainTuples.{is_call_op, row_shifts_left}
+use Rattle.facts_steps.proofs.Words.{◌≡◌, ◌≢◌, ℕ, zero, suc, ◌+◌, ◌<◌, Bool, true, false, ◌&&◌, ◌||◌, cond, eqb, List, [], ◌∷◌, ◌++◌, drop, length}
+use Rattle.facts_steps.proofs.Words.{slice_index, refl, ap, sym, subst, ◌∙◌, ⊎_elim, arith, nat_tests, nil_from_length, shift_of, Op, Shift, Left, Stay}
+use Rattle.facts_steps.proofs.Words.{Right, h, s, depth, number_of_constants, felt_add, is_left, is_right, is_shift, op_of, is_call_op, row_shifts_left}
+use Rattle.facts_steps.proofs.Words.{taken_by, either_or, ShiftsCells, GoesOnBy, ShowsStep, IsPlace}
 use Rattle.air_kit.specs.Places.{Claim}
-use Rattle.air_kit.specs.RowStates.{Overflow, overflow_behind, overflow_at, brought_back, row_returns, memory_at, tape_of, taken_by, elsewhere_at}
-use Rattle.facts_main.proofs.Says.{either_or}
+use Rattle.air_kit.specs.RowStates.{Overflow, overflow_behind, overflow_at, brought_back, row_returns, memory_at, tape_of, elsewhere_at}
 use Rattle.vm_table.specs.Layout.{row_at}
 use Rattle.facts_main.specs.MainRows.{ShowsRows, op_in}
-use Rattle.facts_main.specs.Stack.{ShiftsCells}
-use Rattle.facts_steps.specs.Joined.{GoesOnBy}
-use Rattle.facts_steps.specs.Showing.{ShowsStep, IsPlace}
 use Rattle.facts_steps.proofs.Ordinary.{IsOrdinary, ordinary, mover_is}
 use Rattle.facts_steps.proofs.Shifts.{Behind, below_from}
 use Rattle.facts_steps.proofs.Steps.{rows_show}

@@ -1,8 +1,7 @@
 -- Products and quotients of numbers of 32 bits, as elements.
-use Rattle.std.proofs.Common.{◌≡◌, ◌≢◌, ℕ, ◌+◌, ◌-◌, ◌*◌, ◌/◌, ◌%◌, ◌^◌, ◌<◌, ◌≤◌, ap, ap₂, sym, ◌∙◌, arith}
+use Rattle.facts_steps.proofs.Words.{◌≡◌, ◌≢◌, ℕ, ◌+◌, ◌-◌, ◌*◌, ◌/◌, ◌%◌, ◌^◌, ◌<◌, ◌≤◌, ap, ap₂, sym, ◌∙◌, arith, prime, felt_add, felt_mul}
 use Rattle.std.proofs.Math.Nat.{mul-le-mul, mul-le-mul_left, mul_comm, mod-lt}
 use Rattle.std.proofs.lemmas.Nat.{mod-mul-add, div-mul-add, div-add-mod'}
-use Rattle.vm_field.specs.Field.{prime, felt_add, felt_mul}
 use Rattle.facts_steps.proofs.Numbers.{Words}
 
 -- ---- products

@@ -1,15 +1,7 @@
 -- What an operation sees of the state of a row.
-use Rattle.std.proofs.Common.{◌≡◌, ℕ, zero, suc, ◌+◌, ◌<◌, ◌≤◌, List, [], ◌∷◌, ◌++◌, take, drop, length, slice_index, refl, ap, sym, ◌∙◌, arith}
-use Rattle.std.proofs.lemmas.List.{length-append, length-take-le, get_or_append_left}
-use Rattle.vm_field.specs.Limits.{number_of_constants}
-use Rattle.vm_field.specs.Machine.{word_at, IsWord}
-use Rattle.vm_ops.specs.Sizes.{IsSeenBy}
-use Rattle.vm_ops.specs.Stepping.{ShowTheSame, seen_at}
-use Rattle.vm_ops.specs.Values.{Seen, advice_of}
-use Rattle.vm_ops.specs.declared.item.Item.{Item}
-use Rattle.vm_table.specs.MainColumns.{s, depth}
-use Rattle.air_kit.specs.RowStates.{Elsewhere, state_of}
-use Rattle.air_kit.specs.StackValues.{cells, seen_of, function_digest}
+use Rattle.facts_steps.proofs.Words.{◌≡◌, ℕ, zero, suc, ◌+◌, ◌<◌, ◌≤◌, List, [], ◌∷◌, ◌++◌, take, drop, length, slice_index, refl, ap, sym, ◌∙◌, arith}
+use Rattle.facts_steps.proofs.Words.{length-append, length-take-le, get_or_append_left, number_of_constants, word_at, IsWord, IsSeenBy, ShowTheSame, seen_at}
+use Rattle.facts_steps.proofs.Words.{Seen, advice_of, Item, s, depth, Elsewhere, state_of, cells, seen_of, function_digest}
 
 abbrev pub seen_by : List ℕ → Item → List ℕ → Elsewhere → Seen
 seen_by constants item x e = seen_at constants item (state_of x e)

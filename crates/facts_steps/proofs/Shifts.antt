@@ -1,25 +1,12 @@
 -- How the stack of a row and that of the row behind it hang together: the cells that the operation leaves are on top, and the shift
 -- brings all others.
-use Rattle.std.proofs.Common.{◌≡◌, ◌≢◌, ◌⊎◌, inl, inr, ℕ, ◌+◌, ◌-◌, ◌<◌, ◌≤◌, Bool, true, false, ◌&&◌, eqb, List, [], ◌∷◌, ◌++◌, take, drop, length, slice_index, refl, ap, ap₂, sym, subst, ◌∙◌, ⊎_elim, arith, lit<}
-use Rattle.std.proofs.lemmas.Grind.{same_number_lists}
-use Rattle.std.proofs.lemmas.List.{length-take-le, get_or-take, take-append-drop, nil_from_length}
-use Rattle.std.proofs.lemmas.Bool.Decides.{nat_tests}
+use Rattle.facts_steps.proofs.Words.{◌≡◌, ◌≢◌, ◌⊎◌, inl, inr, ℕ, ◌+◌, ◌-◌, ◌<◌, ◌≤◌, Bool, true, false, ◌&&◌, eqb, List, [], ◌∷◌, ◌++◌, take, drop, length}
+use Rattle.facts_steps.proofs.Words.{slice_index, refl, ap, ap₂, sym, subst, ◌∙◌, ⊎_elim, arith, lit<, same_number_lists, length-take-le, get_or-take}
+use Rattle.facts_steps.proofs.Words.{take-append-drop, nil_from_length, nat_tests, leaves_of, takes_of, shift_of, IsSeenBy, left_cells, stack_after, Seen, Op}
+use Rattle.facts_steps.proofs.Words.{Shift, Left, Stay, Right, s, depth, is_left, is_shift, cells, off, never, either_or, ShiftsCells, ShiftsBelow}
 use Rattle.vm_ops.proofs.FrameLemmas.{drop-stack_after, index-below, index-left}
 use Rattle.vm_ops.proofs.MoveLemmas.{ByOne, leaves_of-below, takes_of-below, shift_of-by_one}
 use Rattle.vm_ops.proofs.Sizing.{length-stack_after}
-use Rattle.vm_ops.specs.Moves.{leaves_of, takes_of, shift_of}
-use Rattle.vm_ops.specs.Sizes.{IsSeenBy}
-use Rattle.vm_ops.specs.Step.{left_cells, stack_after}
-use Rattle.vm_ops.specs.Values.{Seen}
-use Rattle.vm_ops.specs.declared.op.Op.{Op}
-use Rattle.vm_ops.specs.declared.op.Shift.{Shift}
-use Rattle.vm_ops.specs.declared.op.Shift.TheVariants.{Left, Stay, Right}
-use Rattle.vm_table.specs.MainColumns.{s, depth}
-use Rattle.air_kit.specs.Flags.{is_left, is_shift}
-use Rattle.air_kit.specs.StackValues.{cells}
-use Rattle.facts_main.proofs.Says.{off, never, either_or}
-use Rattle.facts_main.specs.Stack.{ShiftsCells}
-use Rattle.facts_steps.specs.Joined.{ShiftsBelow}
 use Rattle.facts_steps.proofs.Seeing.{length_cells, drop_cells, drop_most, drop_more_cells, top_index, below_index, cells_index}
 
 -- ---- the cells below the sixteenth

@@ -1,16 +1,7 @@
 -- How a step fills the facts of the stack: inverses show what differs.
-use Rattle.std.proofs.Common.{◌≡◌, ◌≢◌, ℕ, ◌+◌, ◌^◌, ◌<◌, true, false, List, length, ap, sym, ◌∙◌, arith}
-use Rattle.vm_field.proofs.Inverses.{felt_mul-felt_inv}
-use Rattle.vm_field.specs.Field.{prime, felt_sub, felt_mul, felt_inv}
-use Rattle.vm_ops.specs.Codes.{reads_elsewhere}
-use Rattle.vm_ops.specs.Moves.{leaves_of}
-use Rattle.vm_ops.specs.declared.op.Op.{Op}
+use Rattle.facts_steps.proofs.Words.{◌≡◌, ◌≢◌, ℕ, ◌+◌, ◌^◌, ◌<◌, true, false, List, length, ap, sym, ◌∙◌, arith, felt_mul-felt_inv, prime, felt_sub, felt_mul}
+use Rattle.facts_steps.proofs.Words.{felt_inv, reads_elsewhere, leaves_of, Op, s, depth, inv, w, is_op, left_value, off, IsStackRow, LeavesCells}
 use Rattle.vm_ops.specs.declared.op.Op.TheVariants as ops
-use Rattle.vm_table.specs.MainColumns.{s, depth, inv, w}
-use Rattle.air_kit.specs.Flags.{is_op}
-use Rattle.air_kit.specs.StackValues.{left_value}
-use Rattle.facts_main.proofs.Says.{off}
-use Rattle.facts_main.specs.Stack.{IsStackRow, LeavesCells}
 use Rattle.facts_steps.proofs.Ordinary.{IsOrdinary, no_return}
 use Rattle.facts_steps.proofs.Tops.{fixed_is_shown}
 use Rattle.facts_steps.proofs.Traps.{Runs}

@@ -1,31 +1,15 @@
 -- Rows whose facts hold show a step.
-use Rattle.std.proofs.Common.{◌≡◌, ◌≢◌, ℕ, ◌+◌, ◌^◌, ◌<◌, ◌≤◌, Bool, true, false, ◌||◌, eqb, List, [], ◌∷◌, ◌++◌, drop, length, slice_index, Option, Some, None, MatchOption, refl, ap, ap₂, sym, subst, ◌∙◌, arith, lit≤}
+use Rattle.facts_steps.proofs.Words.{◌≡◌, ◌≢◌, ℕ, ◌+◌, ◌^◌, ◌<◌, ◌≤◌, Bool, true, false, ◌||◌, eqb, List, [], ◌∷◌, ◌++◌, drop, length, slice_index, Option}
+use Rattle.facts_steps.proofs.Words.{Some, None, refl, ap, ap₂, sym, subst, ◌∙◌, arith, lit≤, number_of_constants, prime, AreElements, felt_add, WordMap}
+use Rattle.facts_steps.proofs.Words.{word_at, IsWord, trap_of-shown, step-goes, is_ordinary_op, reads_elsewhere, IsSeenBy, memory_with, stack_after}
+use Rattle.facts_steps.proofs.Words.{state_after, Seen, trap_of, written, advice_of, Item, Op, clk, ctx, s, t, depth, is_op, Elsewhere, state_of, taken_by}
+use Rattle.facts_steps.proofs.Words.{written_by, memory_behind, cells, seen_of, is_free, Low, has_second, ShiftsCells, IsRowOf, GoesOnBy, item_of, Lookups}
+use Rattle.facts_steps.proofs.Words.{is_bitwise, ShowsStep}
+use Rattle.std.proofs.Common.{MatchOption}
 use Rattle.vm_field.proofs.Places.{words-insert}
-use Rattle.vm_field.specs.Limits.{number_of_constants}
-use Rattle.vm_field.specs.Field.{prime, AreElements, felt_add}
-use Rattle.vm_field.specs.Machine.{WordMap, word_at, IsWord}
-use Rattle.vm_ops.proofs.ShownLemmas.{trap_of-shown}
-use Rattle.vm_ops.proofs.StepLemmas.{step-goes}
-use Rattle.vm_ops.specs.Codes.{is_ordinary_op, reads_elsewhere}
-use Rattle.vm_ops.specs.Sizes.{IsSeenBy}
-use Rattle.vm_ops.specs.Step.{memory_with, stack_after}
-use Rattle.vm_ops.specs.Stepping.{state_after}
-use Rattle.vm_ops.specs.Values.{Seen, trap_of, written, advice_of}
-use Rattle.vm_ops.specs.declared.item.Item.{Item}
-use Rattle.vm_ops.specs.declared.op.Op.{Op}
 use Rattle.vm_ops.specs.declared.op.Op.TheVariants as ops
-use Rattle.vm_table.specs.MainColumns.{clk, ctx, s, t, depth}
-use Rattle.air_kit.specs.Flags.{is_op}
-use Rattle.air_kit.specs.RowStates.{Elsewhere, state_of, taken_by, written_by, memory_behind}
-use Rattle.air_kit.specs.StackValues.{cells, seen_of, is_free}
-use Rattle.facts_main.proofs.BlockFacts.{Low}
 use Rattle.facts_main.proofs.CellFacts.{elements_each}
-use Rattle.facts_main.specs.Limbs.{has_second}
 use Rattle.facts_main.specs.MainRows.{ShowsRow, ShowsPair}
-use Rattle.facts_main.specs.Stack.{ShiftsCells}
-use Rattle.facts_steps.specs.Joined.{IsRowOf, GoesOnBy, item_of}
-use Rattle.facts_steps.specs.Lookups.{Lookups, is_bitwise}
-use Rattle.facts_steps.specs.Showing.{ShowsStep}
 use Rattle.facts_steps.proofs.Depths.{depth_shown}
 use Rattle.facts_steps.proofs.Frames.{KeepsFrame, frame_shown, written_is, memory_is, tape_left}
 use Rattle.facts_steps.proofs.Ordinary.{ordinary, mover_is}

@@ -1,23 +1,10 @@
 -- The cells that an operation leaves, one by one and as a list, and those of the operations whose row shows all that they read.
-use Rattle.std.proofs.Common.{◌≡◌, ℕ, ◌+◌, ◌<◌, ◌≤◌, false, List, ◌++◌, map, take, length, slice_index, refl, ap, ap₂, sym, ◌∙◌, arith}
-use Rattle.std.proofs.lemmas.Grind.{same_number_lists}
-use Rattle.std.proofs.lemmas.List.{length-take-le, get_or-take}
+use Rattle.facts_steps.proofs.Words.{◌≡◌, ℕ, ◌+◌, ◌<◌, ◌≤◌, false, List, ◌++◌, map, take, length, slice_index, refl, ap, ap₂, sym, ◌∙◌, arith}
+use Rattle.facts_steps.proofs.Words.{same_number_lists, length-take-le, get_or-take, computed-shown, reads_elsewhere, leaves_of, sources_of, IsSeenBy}
+use Rattle.facts_steps.proofs.Words.{left_cells, ShowTheSame, Seen, Item, Op, s, depth, Elsewhere, cells, seen_of, is_free, left_value, never}
 use Rattle.vm_ops.proofs.MoveLemmas.{leaves_of-below}
-use Rattle.vm_ops.proofs.ShownLemmas.{computed-shown}
 use Rattle.vm_ops.proofs.Sizing.{length-left_cells}
-use Rattle.vm_ops.specs.Codes.{reads_elsewhere}
-use Rattle.vm_ops.specs.Moves.{leaves_of, sources_of}
-use Rattle.vm_ops.specs.Sizes.{IsSeenBy}
-use Rattle.vm_ops.specs.Step.{left_cells}
-use Rattle.vm_ops.specs.Stepping.{ShowTheSame}
-use Rattle.vm_ops.specs.Values.{Seen}
-use Rattle.vm_ops.specs.declared.item.Item.{Item}
-use Rattle.vm_ops.specs.declared.op.Op.{Op}
 use Rattle.vm_ops.specs.declared.op.Op.TheVariants as ops
-use Rattle.vm_table.specs.MainColumns.{s, depth}
-use Rattle.air_kit.specs.RowStates.{Elsewhere}
-use Rattle.air_kit.specs.StackValues.{cells, seen_of, is_free, left_value}
-use Rattle.facts_main.proofs.Says.{never}
 use Rattle.facts_steps.proofs.Seeing.{seen_by, shows_same, length_cells, cells_index}
 
 -- each cell that the operation leaves is on top in the row behind it

@@ -1,19 +1,9 @@
 -- Where an operation does not trap, for what it needs of its operands stands.
-use Rattle.std.proofs.Common.{◌≡◌, ◌≢◌, ℕ, ◌^◌, ◌<◌, Bool, true, false, ◌&&◌, ◌||◌, not, eqb, nat_lt, List, Option, Some, None, refl, arith}
-use Rattle.std.proofs.lemmas.Bool.Decides.{nat_tests}
-use Rattle.vm_ops.specs.Codes.{accesses_memory}
-use Rattle.vm_ops.specs.Values.{trap_of, unless, or_else}
-use Rattle.vm_ops.specs.declared.cause.Cause.{Cause}
+use Rattle.facts_steps.proofs.Words.{◌≡◌, ◌≢◌, ℕ, ◌^◌, ◌<◌, Bool, true, false, ◌&&◌, ◌||◌, not, eqb, nat_lt, List, Option, Some, None, refl, arith, nat_tests}
+use Rattle.facts_steps.proofs.Words.{accesses_memory, trap_of, unless, or_else, Cause, Op, sys, s, is_op, cells, seen_of, off, has_second, has_third}
+use Rattle.facts_steps.proofs.Words.{tests_top, tests_two, is_bitwise}
 use Rattle.vm_ops.specs.declared.cause.Cause.TheVariants.{NotBinary, ZeroInverse, AddressRange, NotInSyscall, NotU32, DivideByZero, AssertFailed}
-use Rattle.vm_ops.specs.declared.op.Op.{Op}
 use Rattle.vm_ops.specs.declared.op.Op.TheVariants as ops
-use Rattle.vm_table.specs.MainColumns.{sys, s}
-use Rattle.air_kit.specs.Flags.{is_op}
-use Rattle.air_kit.specs.StackValues.{cells, seen_of}
-use Rattle.facts_main.proofs.Says.{off}
-use Rattle.facts_main.specs.Limbs.{has_second, has_third}
-use Rattle.facts_main.specs.Stack.{tests_top, tests_two}
-use Rattle.facts_steps.specs.Lookups.{is_bitwise}
 
 -- two operands of 32 bits
 abbrev pub takes_words : Op → Bool

@@ -1,14 +1,8 @@
 -- Limbs have 16 bits, and what the bitwise bus is asked is so.
-use Rattle.std.proofs.Common.{◌≡◌, ℕ, zero, suc, ◌+◌, ◌-◌, ◌*◌, ◌/◌, ◌%◌, ◌^◌, ◌<◌, Bool, true, false, ◌||◌, List, [], ◌∷◌, slice_index, bit_and, bit_xor, refl, ◌∙◌, arith, lit<}
-use Rattle.std.proofs.lemmas.Nat.{and_comm, xor_comm}
-use Rattle.vm_ops.specs.declared.op.Op.{Op}
+use Rattle.facts_steps.proofs.Words.{◌≡◌, ℕ, zero, suc, ◌+◌, ◌-◌, ◌*◌, ◌/◌, ◌%◌, ◌^◌, ◌<◌, Bool, true, false, ◌||◌, List, [], ◌∷◌, slice_index, bit_and}
+use Rattle.facts_steps.proofs.Words.{bit_xor, refl, ◌∙◌, arith, lit<, and_comm, xor_comm, Op, s, t, is_op, off, has_second, limbs_filled, halves}
+use Rattle.facts_steps.proofs.Words.{LooksUpLimbs, LooksUpBits, is_bitwise}
 use Rattle.vm_ops.specs.declared.op.Op.TheVariants as ops
-use Rattle.vm_table.specs.MainColumns.{s, t}
-use Rattle.air_kit.specs.Flags.{is_op}
-use Rattle.facts_main.proofs.Says.{off}
-use Rattle.facts_main.specs.Limbs.{has_second}
-use Rattle.facts_steps.specs.Filling.{limbs_filled, halves}
-use Rattle.facts_steps.specs.Lookups.{LooksUpLimbs, LooksUpBits, is_bitwise}
 use Rattle.facts_steps.proofs.Numbers.{word_low, word_high, half_low, half_high, carry_low}
 use Rattle.facts_steps.proofs.WordValues.{left_and, left_xor}
 use Rattle.facts_steps.proofs.WordMade.{Made, below_sum, below_sum_three, split_is, add_is, add_three_is, mul_is, mul_add_is, sub_is, mul_below, mul_add_below, rest_below, quotient_below, remainder_below, distance_below}

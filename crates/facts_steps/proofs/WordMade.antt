@@ -1,15 +1,7 @@
 -- What a step leaves of numbers of 32 bits, and how great it is.
-use Rattle.std.proofs.Common.{◌≡◌, ℕ, ◌+◌, ◌-◌, ◌*◌, ◌^◌, ◌<◌, true, false, List, slice_index, refl, ◌∙◌, arith, lit<}
-use Rattle.vm_field.specs.Field.{prime, felt_sub, felt_inv}
-use Rattle.vm_ops.specs.Codes.{reads_elsewhere}
-use Rattle.vm_ops.specs.Moves.{leaves_of}
-use Rattle.vm_ops.specs.declared.op.Op.{Op}
+use Rattle.facts_steps.proofs.Words.{◌≡◌, ℕ, ◌+◌, ◌-◌, ◌*◌, ◌^◌, ◌<◌, true, false, List, slice_index, refl, ◌∙◌, arith, lit<, prime, felt_sub, felt_inv}
+use Rattle.facts_steps.proofs.Words.{reads_elsewhere, leaves_of, Op, s, t, w, count_of_limbs, left_value, has_high_word, limbs_filled}
 use Rattle.vm_ops.specs.declared.op.Op.TheVariants as ops
-use Rattle.vm_table.specs.MainColumns.{s, t, w}
-use Rattle.air_kit.specs.MainTuples.{count_of_limbs}
-use Rattle.air_kit.specs.StackValues.{left_value}
-use Rattle.facts_main.specs.Limbs.{has_high_word}
-use Rattle.facts_steps.specs.Filling.{limbs_filled}
 use Rattle.facts_steps.proofs.Numbers.{Words, Borrows}
 use Rattle.facts_steps.proofs.Traps.{Runs}
 use Rattle.facts_steps.proofs.WordValues.{left_split, left_add, left_add_three, left_mul, left_mul_add, left_sub, left_div}

@@ -1,14 +1,7 @@
 -- The operands that are the numbers of their limbs have 32 bits.
-use Rattle.std.proofs.Common.{◌≡◌, ◌≢◌, ℕ, ◌+◌, ◌^◌, ◌<◌, ◌≤◌, true, List, refl, arith, lit<, lit≤}
-use Rattle.vm_ops.specs.declared.op.Op.{Op}
+use Rattle.facts_steps.proofs.Words.{◌≡◌, ◌≢◌, ℕ, ◌+◌, ◌^◌, ◌<◌, ◌≤◌, true, List, refl, arith, lit<, lit≤, Op, s, t, is_op, count_of_limbs, limbs, off}
+use Rattle.facts_steps.proofs.Words.{IsLimbRow, has_second, has_third, LooksUpLimbs}
 use Rattle.vm_ops.specs.declared.op.Op.TheVariants as ops
-use Rattle.vm_table.specs.MainColumns.{s, t}
-use Rattle.air_kit.specs.Flags.{is_op}
-use Rattle.air_kit.specs.MainTuples.{count_of_limbs}
-use Rattle.air_kit.specs.U32Values.{limbs}
-use Rattle.facts_main.proofs.Says.{off}
-use Rattle.facts_main.specs.Limbs.{IsLimbRow, has_second, has_third}
-use Rattle.facts_steps.specs.Lookups.{LooksUpLimbs}
 use Rattle.facts_steps.proofs.Numbers.{limbs_below}
 use Rattle.facts_steps.proofs.Products.{divisor_is}
 

@@ -1,15 +1,9 @@
 -- What a step leaves of numbers of 32 bits fixes the facts of their limbs.
-use Rattle.std.proofs.Common.{◌≡◌, ◌≢◌, ℕ, ◌+◌, ◌-◌, ◌*◌, ◌/◌, ◌%◌, ◌^◌, ◌<◌, true, List, slice_index, refl, ap, sym, ◌∙◌, arith, lit<}
-use Rattle.vm_field.specs.Field.{felt_add, felt_sub, felt_mul}
-use Rattle.vm_ops.specs.declared.op.Op.{Op}
+use Rattle.facts_steps.proofs.Words.{◌≡◌, ◌≢◌, ℕ, ◌+◌, ◌-◌, ◌*◌, ◌/◌, ◌%◌, ◌^◌, ◌<◌, true, List, slice_index, refl, ap, sym, ◌∙◌, arith, lit<, felt_add}
+use Rattle.facts_steps.proofs.Words.{felt_sub, felt_mul, Op, s, t, w, is_op, count_of_limbs, limbs, two_left, off, IsLimbRow, MovesLimbs, has_second}
+use Rattle.facts_steps.proofs.Words.{has_third, has_high_word, limbs_filled}
 use Rattle.vm_ops.specs.declared.op.Op.TheVariants as ops
-use Rattle.vm_table.specs.MainColumns.{s, t, w}
-use Rattle.air_kit.specs.Flags.{is_op}
-use Rattle.air_kit.specs.MainTuples.{count_of_limbs}
-use Rattle.air_kit.specs.U32Values.{limbs, two_left}
-use Rattle.facts_main.proofs.Says.{off}
-use Rattle.facts_main.specs.Limbs.{IsLimbRow, MovesLimbs, Splits, Adds, AddsThree, Subtracts, Multiplies, MultipliesAndAdds, Divides, has_second, has_third, has_high_word}
-use Rattle.facts_steps.specs.Filling.{limbs_filled}
+use Rattle.facts_main.specs.Limbs.{Splits, Adds, AddsThree, Subtracts, Multiplies, MultipliesAndAdds, Divides}
 use Rattle.facts_steps.proofs.Numbers.{words_make, word_low, word_high, one_way, limbs_make, sum_make, sum_three_make, borrow_low, borrows_make}
 use Rattle.facts_steps.proofs.Products.{product_make, product_sum_make, divided_make, divisor_make}
 use Rattle.facts_steps.proofs.WordMade.{Made, split_is, add_is, add_three_is, mul_is, mul_add_is, sub_is, div_is, mul_below, mul_add_below, rest_below, quotient_below, below_divisor, remainder_below, distance_below}

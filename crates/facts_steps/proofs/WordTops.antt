@@ -1,18 +1,8 @@
 -- The operations on numbers of 32 bits: their limbs fix what they leave, as the machine computes it.
-use Rattle.std.proofs.Common.{◌≡◌, ℕ, zero, suc, ◌+◌, ◌*◌, ◌/◌, ◌%◌, ◌^◌, ◌<◌, true, false, List, refl, ap, sym, ◌∙◌, arith, lit<}
-use Rattle.std.proofs.lemmas.Nat.{and_comm, xor_comm}
-use Rattle.vm_field.specs.Field.{prime, felt_add}
-use Rattle.vm_ops.specs.Codes.{reads_elsewhere}
-use Rattle.vm_ops.specs.Moves.{leaves_of}
-use Rattle.vm_ops.specs.declared.op.Op.{Op}
+use Rattle.facts_steps.proofs.Words.{◌≡◌, ℕ, zero, suc, ◌+◌, ◌*◌, ◌/◌, ◌%◌, ◌^◌, ◌<◌, true, false, List, refl, ap, sym, ◌∙◌, arith, lit<, and_comm, xor_comm}
+use Rattle.facts_steps.proofs.Words.{prime, felt_add, reads_elsewhere, leaves_of, Op, s, t, w, is_free, left_value, limbs, two_left, Low, off, never}
+use Rattle.facts_steps.proofs.Words.{IsLimbRow, MovesLimbs, LooksUpLimbs, LooksUpBits}
 use Rattle.vm_ops.specs.declared.op.Op.TheVariants as ops
-use Rattle.vm_table.specs.MainColumns.{s, t, w}
-use Rattle.air_kit.specs.StackValues.{is_free, left_value}
-use Rattle.air_kit.specs.U32Values.{limbs, two_left}
-use Rattle.facts_main.proofs.BlockFacts.{Low}
-use Rattle.facts_main.proofs.Says.{off, never}
-use Rattle.facts_main.specs.Limbs.{IsLimbRow, MovesLimbs}
-use Rattle.facts_steps.specs.Lookups.{LooksUpLimbs, LooksUpBits}
 use Rattle.facts_steps.proofs.Numbers.{Words, words_of, whole_below, whole_is, sum_is, sum_three_is, Borrows, borrows_from}
 use Rattle.facts_steps.proofs.Traps.{Runs}
 use Rattle.facts_steps.proofs.Products.{product_is, product_sum_is, divisor_is, Divided, divided_from}

@@ -1,10 +1,7 @@
 -- What the operations on numbers of 32 bits leave, as numbers.
-use Rattle.std.proofs.Common.{◌≡◌, ℕ, ◌+◌, ◌-◌, ◌*◌, ◌/◌, ◌%◌, ◌^◌, cond, nat_lt, List, bit_and, bit_xor, refl}
-use Rattle.vm_ops.specs.Step.{left_cells}
-use Rattle.vm_ops.specs.Values.{computed}
+use Rattle.facts_steps.proofs.Words.{◌≡◌, ℕ, ◌+◌, ◌-◌, ◌*◌, ◌/◌, ◌%◌, ◌^◌, cond, nat_lt, List, bit_and, bit_xor, refl, left_cells, computed, s, cells}
+use Rattle.facts_steps.proofs.Words.{seen_of, left_value}
 use Rattle.vm_ops.specs.declared.op.Op.TheVariants as ops
-use Rattle.vm_table.specs.MainColumns.{s}
-use Rattle.air_kit.specs.StackValues.{cells, seen_of, left_value}
 
 pub left_split : (x : List ℕ) → (left_value ops.U32Split 0 x ≡ s x 0 / 2 ^ 32) × (left_value ops.U32Split 1 x ≡ s x 0 % 2 ^ 32)
 unfolding left_value left_cells computed seen_of cells

@@ -1,14 +1,11 @@
 -- The rows of accesses, one by one, and that accesses that fit are shown by them.
-use Rattle.std.proofs.Common.{◌≡◌, ℕ, suc, ◌+◌, ◌<◌, ◌≤◌, ◌/◌, ◌%◌, List, [], ◌∷◌, ◌++◌, length, get_or, slice_index, drop, Option, None, Some, All, Result, Ok, Err, IfOk, refl, sym, ap, ap₂, subst, ◌∙◌, add-one, append_assoc, drop-cons}
-use Rattle.std.proofs.lemmas.List.{append-nil, drop_all}
+use Rattle.fill_chips.proofs.Words.{◌≡◌, ℕ, suc, ◌+◌, ◌<◌, ◌≤◌, ◌/◌, ◌%◌, List, [], ◌∷◌, ◌++◌, length, get_or, slice_index, drop, Option, None, Some, All}
+use Rattle.fill_chips.proofs.Words.{Result, Ok, Err, IfOk, refl, sym, ap, ap₂, subst, ◌∙◌, add-one, append_assoc, drop-cons, append-nil, drop_all, Requests}
+use Rattle.fill_chips.proofs.Words.{Fits, AccessesFit, IsSmallAccess, ShowsAccesses, AreRowsOf, HasNoFirstStep}
 use Rattle.std.specs.List.Sorted.{IsPermutation}
 use Rattle.air_kit.specs.declared.requests.Access.{Access}
-use Rattle.air_kit.specs.declared.requests.Requests.{Requests}
-use Rattle.air_kit.specs.Requests.{Fits}
 use Rattle.facts_memory.specs.AccessRows.{new_address, new_context, row_behind, rows_behind, step_behind}
-use Rattle.facts_memory.specs.MemoryTables.{AccessesFit, IsSmallAccess, ShowsAccesses}
 use Rattle.facts_memory.proofs.RowsShow.{rows_show}
-use Rattle.fill_chips.specs.MemoryLimbs.{AreRowsOf, HasNoFirstStep}
 
 -- a row by its cells
 pub row-is : (before : Option Access) (a : Access) (c0 c1 c2 c3 c4 c5 c6 c7 c8 c9 c10 c11 c12 c13 : ℕ) → c0 ≡ a.kind → c1 ≡ a.ctx → c2 ≡ a.addr

@@ -1,9 +1,9 @@
 -- The rows of bitwise operations, one by one.
-use Rattle.std.proofs.Common.{◌≡◌, ℕ, zero, suc, ◌*◌, ◌-◌, ◌/◌, ◌%◌, ◌^◌, Bool, List, [], ◌∷◌, ◌++◌, refl, ap, ap₂, ◌∙◌}
+use Rattle.fill_chips.proofs.Words.{◌≡◌, ℕ, zero, suc, ◌*◌, ◌-◌, ◌/◌, ◌%◌, ◌^◌, Bool, List, [], ◌∷◌, ◌++◌, refl, ap, ap₂, ◌∙◌, bit_of, row_without}
+use Rattle.fill_chips.proofs.Words.{rows_of_bits}
 use Rattle.std.proofs.Math.Nat.{div-one}
-use Rattle.vm_ops.specs.Values.{bit_of}
 use Rattle.air_kit.specs.declared.requests.BitOp.{BitOp}
-use Rattle.facts_bitwise.specs.BitRows.{bit_row, bitwise, row_without, rows_before, rows_of_bits}
+use Rattle.facts_bitwise.specs.BitRows.{bit_row, bitwise, rows_before}
 
 -- a row by its cells
 pub row-is : (xor : Bool) (u v : ℕ) (c0 c1 c2 c3 c4 c5 c6 c7 c8 c9 c10 c11 : ℕ) → c0 ≡ bit_of xor → c1 ≡ u → c2 ≡ v → c3 ≡ u % 2 → c4 ≡ u / 2 % 2

@@ -1,40 +1,26 @@
 -- The filled tables answer the requests.
-use Rattle.std.proofs.Common.{◌≡◌, ◌≢◌, ℕ, zero, suc, ◌+◌, ◌^◌, ◌<◌, ◌≤◌, List, [], ◌∷◌, ◌++◌, length, map, All, refl, sym, ap, subst, ◌∙◌, arith}
-use Rattle.std.proofs.lemmas.List.{length-map}
-use Rattle.std.proofs.lemmas.List.Elements.{All-append}
+use Rattle.fill_chips.proofs.Words.{◌≡◌, ◌≢◌, ℕ, zero, suc, ◌+◌, ◌^◌, ◌<◌, ◌≤◌, List, [], ◌∷◌, ◌++◌, length, map, All, refl, sym, ap, subst, ◌∙◌, arith}
+use Rattle.fill_chips.proofs.Words.{length-map, All-append, IsWord, counted, once, over_rows, counted-none, IsState, Perm, Requests, chip_given, Claim}
+use Rattle.fill_chips.proofs.Words.{at_number, Fits, answers_on, HasCounts, rows_of, value_at, HaveWords, ShowsOps, ShowsAccesses, kernel_rows, times_called}
+use Rattle.fill_chips.proofs.Words.{limbs_in, range_rows}
 use Rattle.vm_field.specs.Limits.{number_of_constants}
-use Rattle.vm_field.specs.Machine.{IsWord}
 use Rattle.facts_hasher.specs.PermRows.{rows_of_perms as perm_rows}
 use Rattle.facts_bitwise.specs.BitRows.{rows_of_bits as bit_rows}
 use Rattle.facts_bitwise.proofs.Given.{rows_give as bits_give}
 use Rattle.facts_bitwise.proofs.TableLaws.{rows_show as bits_show}
-use Rattle.buses.specs.Counts.{counted, once, over_rows}
 use Rattle.buses.specs.declared.bus.Bus.{Bus}
 use Rattle.buses.specs.declared.bus.Bus.TheVariants as bus
-use Rattle.buses.proofs.Counting.{counted-none}
 use Rattle.chip_columns.specs.LeftColumns.{key}
-use Rattle.rpo_hash.specs.States.{IsState}
-use Rattle.air_kit.specs.declared.requests.Perm.{Perm}
-use Rattle.air_kit.specs.declared.requests.Requests.{Requests}
 use Rattle.air_kit.specs.declared.trace.TableName.{TableName}
 use Rattle.air_kit.specs.declared.trace.TableName.TheVariants as table
 use Rattle.air_kit.specs.declared.trace.Trace.{Trace}
 use Rattle.air_kit.specs.Acceptance.{over_chips}
-use Rattle.air_kit.specs.ChipTuples.{chip_given}
-use Rattle.air_kit.specs.Places.{Claim, at_number}
-use Rattle.air_kit.specs.Requests.{Fits, answers_on}
-use Rattle.air_kit.specs.Traces.{HasCounts, rows_of, value_at}
 use Rattle.facts_hasher.specs.HashTables.{PermsFit, HasherIsZero}
 use Rattle.facts_hasher.proofs.GivenLemmas.{rows_give}
 use Rattle.facts_hasher.proofs.RowsAreZero.{rows_of-size}
 use Rattle.facts_hasher.proofs.TableLaws.{rows_show}
-use Rattle.facts_bitwise.specs.BitTables.{HaveWords, ShowsOps}
-use Rattle.facts_memory.specs.MemoryTables.{ShowsAccesses}
 use Rattle.fill_chips.specs.declared.chips.Chips.{Chips}
 use Rattle.fill_chips.specs.Beside.{AnswersBeside, HasSizes, beside}
-use Rattle.fill_chips.specs.KernelRows.{kernel_rows, times_called}
-use Rattle.fill_chips.specs.MemoryLimbs.{limbs_in}
-use Rattle.fill_chips.specs.RangeRows.{range_rows}
 use Rattle.fill_chips.proofs.GivenLemmas.{over-quiet}
 use Rattle.fill_chips.proofs.KernelGiven.{kernel-size, kernel-zero, kernel_gives}
 use Rattle.fill_chips.proofs.LimbLemmas.{asked-both, limbs-asked, limbs-small}

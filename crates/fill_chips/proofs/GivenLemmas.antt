@@ -1,7 +1,6 @@
 -- What the rows of a table give, row by row.
-use Rattle.std.proofs.Common.{◌≡◌, ℕ, zero, suc, ◌+◌, List, [], ◌∷◌, length, slice_index_or, refl, arith}
-use Rattle.buses.specs.Counts.{Counted, OfRow, counted, over_first, over_rows, total}
-use Rattle.buses.proofs.Counting.{counted-none, total-front}
+use Rattle.fill_chips.proofs.Words.{◌≡◌, ℕ, zero, suc, ◌+◌, List, [], ◌∷◌, length, slice_index_or, refl, arith, counted, over_rows, counted-none, total-front}
+use Rattle.buses.specs.Counts.{Counted, OfRow, over_first, total}
 
 total-zero : (n : ℕ) (f : ℕ → ℕ) → ((i : ℕ) → f i ≡ 0) → total n f ≡ 0
 unfolding total

@@ -1,22 +1,13 @@
 -- The rows of the kernel's table have entries 0, and give the calls.
-use Rattle.std.proofs.Common.{◌≡◌, ℕ, zero, suc, ◌+◌, ◌<◌, Bool, true, false, ◌||◌, cond, nat_eq, List, [], ◌∷◌, ◌++◌, length, map, slice_index, slice_index_or, All, refl, sym, ap, ap₂, ◌∙◌, arith, add-zero}
+use Rattle.fill_chips.proofs.Words.{◌≡◌, ℕ, zero, suc, ◌+◌, ◌<◌, Bool, true, false, ◌||◌, cond, nat_eq, List, [], ◌∷◌, ◌++◌, length, map, slice_index}
+use Rattle.fill_chips.proofs.Words.{slice_index_or, All, refl, sym, ap, ap₂, ◌∙◌, arith, add-zero, same_text, get_or_append_left, All-head, All-tail}
+use Rattle.fill_chips.proofs.Words.{sum_by-cons, pointwise, IsWord, ◌⊟◌, counted, once, over_rows, kernel_given, Claim, at_number, family, spot_of}
+use Rattle.fill_chips.proofs.Words.{kernel_rows, times_called, without}
 use Rattle.std.specs.List.{list_any}
-use Rattle.std.specs.Cmp.Lexicographic.{same_text}
-use Rattle.std.proofs.lemmas.List.{get_or_append_left}
-use Rattle.std.proofs.lemmas.List.Elements.{All-head, All-tail}
 use Rattle.std.proofs.lemmas.List.Folds.{list_any_at}
-use Rattle.std.proofs.lemmas.List.Sums.{sum_by-cons}
-use lib.Pointwise.{pointwise}
-use Rattle.vm_field.specs.Machine.{IsWord}
-use Rattle.vm_field.specs.Signs.{◌⊟◌}
 use Rattle.vm_field.proofs.Algebra.{felt_sub-same}
 use Rattle.vm_field.proofs.Elements.{elements-index}
-use Rattle.buses.specs.Counts.{counted, once, over_rows}
-use Rattle.air_kit.specs.ChipTuples.{kernel_given}
 use Rattle.air_kit.specs.KernelValues.{kernel_values}
-use Rattle.air_kit.specs.Places.{Claim, at_number, family}
-use Rattle.air_kit.specs.Traces.{spot_of}
-use Rattle.fill_chips.specs.KernelRows.{kernel_rows, times_called, without}
 use Rattle.fill_chips.proofs.GivenLemmas.{over-cons, over-none}
 
 pub kernel-size : (times : List ℕ → ℕ) (words : List (List ℕ)) → length (kernel_rows times words) ≡ length words

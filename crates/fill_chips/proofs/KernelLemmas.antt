@@ -1,9 +1,7 @@
 -- The rows of the kernel's table, one by one, by counts in a map.
-use Rattle.std.proofs.Common.{◌≡◌, ℕ, ◌+◌, ◌<◌, ◌≤◌, Bool, true, false, cond, nat_eq, Option, None, unwrap_or, List, [], ◌∷◌, ◌++◌, length, get_or, drop, refl, sym, ap, ap₂, ◌∙◌, append_assoc, add-one, arith, drop-cons}
-use Rattle.std.proofs.lemmas.List.{append-nil, drop_all}
-use Rattle.std.specs.HashMap.{HashMap, get}
-use lib.Pointwise.{pointwise}
-use Rattle.fill_chips.specs.KernelRows.{kernel_rows, without}
+use Rattle.fill_chips.proofs.Words.{◌≡◌, ℕ, ◌+◌, ◌<◌, ◌≤◌, Bool, true, false, cond, nat_eq, Option, None, unwrap_or, List, [], ◌∷◌, ◌++◌, length, get_or}
+use Rattle.fill_chips.proofs.Words.{drop, refl, sym, ap, ap₂, ◌∙◌, append_assoc, add-one, arith, drop-cons, append-nil, drop_all, HashMap, get, pointwise}
+use Rattle.fill_chips.proofs.Words.{kernel_rows, without}
 
 -- the count of a word in a map
 abbrev pub times_in : {S : Type 0} → HashMap (List ℕ) ℕ S → List ℕ → ℕ

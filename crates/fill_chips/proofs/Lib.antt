@@ -14,3 +14,4 @@ pub mod RangeGiven
 pub mod RangeZero
 pub mod KernelGiven
 pub mod ChipAnswers
+pub mod Words

@@ -1,13 +1,8 @@
 -- The limbs of memory's rows: 16 bits each, and what the range table is asked for them.
-use Rattle.std.proofs.Common.{◌≡◌, ℕ, suc, ◌+◌, ◌*◌, ◌<◌, List, [], ◌∷◌, ◌++◌, length, map, All, refl, sym, ap, ap₂, ◌∙◌, arith, append_assoc}
-use Rattle.std.proofs.lemmas.List.{map-append}
-use Rattle.std.proofs.lemmas.List.Elements.{All-cons, All-nil}
-use Rattle.buses.specs.Counts.{counted, once, over_rows}
-use Rattle.buses.proofs.Counting.{counted-none, counted-append}
+use Rattle.fill_chips.proofs.Words.{◌≡◌, ℕ, suc, ◌+◌, ◌*◌, ◌<◌, List, [], ◌∷◌, ◌++◌, length, map, All, refl, sym, ap, ap₂, ◌∙◌, arith, append_assoc}
+use Rattle.fill_chips.proofs.Words.{map-append, All-cons, All-nil, counted, once, over_rows, counted-none, counted-append, memory_ranges, HasLimbs, HaveLimbs}
+use Rattle.fill_chips.proofs.Words.{limbs_in, limbs_of_access}
 use Rattle.chip_columns.specs.MemoryColumns.{d0, d1, a0, a1}
-use Rattle.air_kit.specs.ChipTuples.{memory_ranges}
-use Rattle.facts_memory.specs.MemoryTables.{HasLimbs, HaveLimbs}
-use Rattle.fill_chips.specs.MemoryLimbs.{limbs_in, limbs_of_access}
 use Rattle.fill_chips.proofs.GivenLemmas.{over-cons, over-none}
 
 pub limbs-none : limbs_in [] ≡ []

@@ -1,11 +1,8 @@
 -- Counts of asked values and of the limbs of memory's rows, row by row.
-use Rattle.std.proofs.Common.{◌≡◌, ℕ, ◌+◌, ◌*◌, ◌<◌, ◌≤◌, inl, inr, eqb, cond, List, [], ◌++◌, length, slice_index, take, sym, ap, ap₂, ◌∙◌, append_assoc, arith, length-append, length-take}
-use Rattle.std.proofs.lemmas.Bool.{cases_lt}
-use Rattle.std.proofs.lemmas.List.{append-nil, get_or_past, take_more}
-use Rattle.std.proofs.lemmas.List.Sums.{count_by-le-length, sum_by-append}
+use Rattle.fill_chips.proofs.Words.{◌≡◌, ℕ, ◌+◌, ◌*◌, ◌<◌, ◌≤◌, inl, inr, eqb, cond, List, [], ◌++◌, length, slice_index, take, sym, ap, ap₂, ◌∙◌}
+use Rattle.fill_chips.proofs.Words.{append_assoc, arith, length-append, length-take, cases_lt, append-nil, get_or_past, take_more, count_by-le-length}
+use Rattle.fill_chips.proofs.Words.{sum_by-append, limbs_in, limbs_of_access, AreTimes, times_asked}
 use Rattle.vm_table.specs.Layout.{row_at}
-use Rattle.fill_chips.specs.MemoryLimbs.{limbs_in, limbs_of_access}
-use Rattle.fill_chips.specs.RangeRows.{AreTimes, times_asked}
 use Rattle.fill_chips.proofs.LimbLemmas.{limbs-count, limbs-none, limbs-push}
 
 times-both : (xs ys : List ℕ) (v : ℕ) → times_asked (xs ++ ys) v ≡ times_asked xs v + times_asked ys v

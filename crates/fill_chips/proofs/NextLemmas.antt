@@ -1,9 +1,6 @@
 -- The next asked value above one.
-use Rattle.std.proofs.Common.{◌≡◌, ℕ, ◌+◌, ◌<◌, ◌≤◌, inl, inr, true, false, cond, eqb, ltb, min, List, [], ◌∷◌, slice_index, refl, sym, subst, arith}
-use Rattle.std.proofs.lemmas.Bool.{cases_lt}
-use Rattle.std.proofs.lemmas.Bool.Decides.{nat_tests}
-use Rattle.std.proofs.lemmas.List.Sums.{sum_by-cons}
-use Rattle.fill_chips.specs.RangeRows.{AreTimes, next_asked, times_asked}
+use Rattle.fill_chips.proofs.Words.{◌≡◌, ℕ, ◌+◌, ◌<◌, ◌≤◌, inl, inr, true, false, cond, eqb, ltb, min, List, [], ◌∷◌, slice_index, refl, sym, subst, arith}
+use Rattle.fill_chips.proofs.Words.{cases_lt, nat_tests, sum_by-cons, AreTimes, next_asked, times_asked}
 
 pub times-none : (v : ℕ) → times_asked [] v ≡ 0
 times-none v = refl

@@ -1,9 +1,8 @@
 -- The rows of permutations, one by one.
-use Rattle.std.proofs.Common.{◌≡◌, ℕ, zero, suc, Bool, false, List, [], ◌∷◌, ◌++◌, Result, Ok, Err, OnOk, refl, ap, ◌∙◌}
-use Rattle.vm_ops.specs.Values.{bit_of}
+use Rattle.fill_chips.proofs.Words.{◌≡◌, ℕ, zero, suc, Bool, false, List, [], ◌∷◌, ◌++◌, Result, Ok, Err, OnOk, refl, ap, ◌∙◌, bit_of, Perm, perm_row}
+use Rattle.fill_chips.proofs.Words.{rows_of_perms}
 use Rattle.vm_field.specs.Permutation.{rounds}
-use Rattle.air_kit.specs.declared.requests.Perm.{Perm}
-use Rattle.facts_hasher.specs.PermRows.{perm_row, rows_before, rows_of_perms}
+use Rattle.facts_hasher.specs.PermRows.{rows_before}
 
 before-append : (constants : List ℕ) (p : Perm) (rows more : List (List ℕ))
     → rows_before constants p (rows ++ more) ≡ rows_before constants p rows ++ more

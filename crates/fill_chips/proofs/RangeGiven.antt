@@ -1,12 +1,7 @@
 -- The range table gives each value as often as it is asked.
-use Rattle.std.proofs.Common.{◌≡◌, ℕ, zero, suc, ◌+◌, ◌<◌, ◌≤◌, inl, inr, Bool, true, false, ◌&&◌, cond, eqb, ltb, nat_eq, List, [], ◌∷◌, map, All, refl, sym, ap, ap₂, ◌∙◌, arith}
-use Rattle.std.proofs.lemmas.Bool.{cases_lt}
-use Rattle.std.proofs.lemmas.Bool.Decides.{nat_tests}
-use Rattle.std.proofs.lemmas.List.Elements.{All-head, All-tail}
-use lib.Pointwise.{pointwise}
-use Rattle.buses.specs.Counts.{counted, once, over_rows}
-use Rattle.air_kit.specs.ChipTuples.{range_given}
-use Rattle.fill_chips.specs.RangeRows.{range_row, range_rows, rows_from, times_asked, value_behind}
+use Rattle.fill_chips.proofs.Words.{◌≡◌, ℕ, zero, suc, ◌+◌, ◌<◌, ◌≤◌, inl, inr, Bool, true, false, ◌&&◌, cond, eqb, ltb, nat_eq, List, [], ◌∷◌, map, All}
+use Rattle.fill_chips.proofs.Words.{refl, sym, ap, ap₂, ◌∙◌, arith, cases_lt, nat_tests, All-head, All-tail, pointwise, counted, once, over_rows, range_given}
+use Rattle.fill_chips.proofs.Words.{range_row, range_rows, rows_from, times_asked, value_behind}
 use Rattle.fill_chips.proofs.GivenLemmas.{over-cons, over-none}
 use Rattle.fill_chips.proofs.NextLemmas.{next-least, times-cons, times-none}
 use Rattle.fill_chips.proofs.RowsFrom.{behind-far, behind-last, behind-on, rows-last, rows-more}

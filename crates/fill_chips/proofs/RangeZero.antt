@@ -1,14 +1,10 @@
 -- The entries of the range table are 0, and it has few rows.
-use Rattle.std.proofs.Common.{◌≡◌, ℕ, zero, suc, ◌+◌, ◌-◌, ◌<◌, ◌≤◌, inl, inr, true, false, cond, eqb, ltb, leb, List, [], ◌∷◌, length, slice_get, slice_index_or, refl, sym, ap, subst, ◌∙◌, arith}
-use Rattle.std.proofs.lemmas.Bool.{cases_lt}
-use Rattle.std.proofs.lemmas.Bool.Decides.{nat_tests}
-use Rattle.vm_field.specs.Signs.{◌⊟◌, ◌⊠◌}
+use Rattle.fill_chips.proofs.Words.{◌≡◌, ℕ, zero, suc, ◌+◌, ◌-◌, ◌<◌, ◌≤◌, inl, inr, true, false, cond, eqb, ltb, leb, List, [], ◌∷◌, length, slice_get}
+use Rattle.fill_chips.proofs.Words.{slice_index_or, refl, sym, ap, subst, ◌∙◌, arith, cases_lt, nat_tests, ◌⊟◌, ◌⊠◌, at_number, spot_of, allowed_steps}
+use Rattle.fill_chips.proofs.Words.{next_asked, range_row, range_rows, rows_from, step_within, value_behind}
 use Rattle.chip_columns.specs.RangeColumns.{v as value_of}
 use Rattle.air_kit.specs.ChipPlaces.{in_last, only, paired}
-use Rattle.air_kit.specs.Places.{at_number}
 use Rattle.air_kit.specs.RangeValues.{range_step, range_values}
-use Rattle.air_kit.specs.Traces.{spot_of}
-use Rattle.fill_chips.specs.RangeRows.{allowed_steps, next_asked, range_row, range_rows, rows_from, step_within, value_behind}
 use Rattle.fill_chips.proofs.NextLemmas.{next-last}
 use Rattle.fill_chips.proofs.RowsFrom.{behind-is, behind-last, behind-on, rows-last, rows-more}
 use Rattle.fill_chips.proofs.StepLemmas.{step-cons, step-far}

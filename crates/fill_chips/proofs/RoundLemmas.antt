@@ -1,13 +1,8 @@
 -- States filled one after another, pieces put together, and rounds one behind the other.
-use Rattle.std.proofs.Common.{◌≡◌, ℕ, ◌+◌, ◌-◌, ◌*◌, ◌/◌, ◌<◌, ◌≤◌, min, List, [], ◌∷◌, ◌++◌, length, get_or, take, drop, map, refl, sym, ap, ap₂, ◌∙◌, arith, inl, inr, length-take, length-drop}
-use Rattle.std.proofs.lemmas.Bool.{cases_lt}
-use Rattle.std.proofs.lemmas.List.{map-append, drop-drop, get_or-map}
-use Rattle.std.proofs.Math.Seq.{take-add, take_all}
-use Rattle.pieces.specs.Cuts.{cut_at}
-use Rattle.pieces.proofs.CutLemmas.{cut_starts, cut_ends}
-use Rattle.perm_memo.specs.RoundStates.{round_states}
-use Rattle.air_kit.specs.declared.requests.Perm.{Perm}
-use Rattle.fill_chips.specs.Rounds.{states_of, between}
+use Rattle.fill_chips.proofs.Words.{◌≡◌, ℕ, ◌+◌, ◌-◌, ◌*◌, ◌/◌, ◌<◌, ◌≤◌, min, List, [], ◌∷◌, ◌++◌, length, get_or, take, drop, map, refl, sym, ap, ap₂, ◌∙◌}
+use Rattle.fill_chips.proofs.Words.{arith, inl, inr, length-take, length-drop, cases_lt, map-append, drop-drop, get_or-map, take-add, take_all, cut_at}
+use Rattle.fill_chips.proofs.Words.{cut_starts, cut_ends, round_states, Perm, states_of}
+use Rattle.fill_chips.specs.Rounds.{between}
 
 between_joined : {A : Type 0} (i m j : ℕ) (xs : List A) → i ≤ m → m ≤ j → between i m xs ++ between m j xs ≡ between i j xs
 unfolding between

@@ -1,8 +1,7 @@
 -- The rows of the range table from a value on.
-use Rattle.std.proofs.Common.{◌≡◌, ℕ, zero, suc, ◌+◌, ◌-◌, ◌<◌, ◌≤◌, true, false, ltb, List, [], ◌∷◌, ◌++◌, length, slice_index, refl, sym, ap, ap₂, ◌∙◌, append_assoc, arith}
-use Rattle.std.proofs.lemmas.List.{length_push}
-use Rattle.std.proofs.lemmas.Bool.Decides.{nat_tests}
-use Rattle.fill_chips.specs.RangeRows.{AreTimes, allowed_steps, next_asked, range_row, range_rows, rows_from, step_within, value_behind}
+use Rattle.fill_chips.proofs.Words.{◌≡◌, ℕ, zero, suc, ◌+◌, ◌-◌, ◌<◌, ◌≤◌, true, false, ltb, List, [], ◌∷◌, ◌++◌, length, slice_index, refl, sym, ap, ap₂}
+use Rattle.fill_chips.proofs.Words.{◌∙◌, append_assoc, arith, length_push, nat_tests, AreTimes, allowed_steps, next_asked, range_row, range_rows, rows_from}
+use Rattle.fill_chips.proofs.Words.{step_within, value_behind}
 use Rattle.fill_chips.proofs.NextLemmas.{next-above, next-last}
 use Rattle.fill_chips.proofs.StepLemmas.{step-far, step-on}
 

@@ -1,8 +1,6 @@
 -- The step of the range table: none goes too far, and each goes on.
-use Rattle.std.proofs.Common.{◌≡◌, ℕ, suc, ◌+◌, ◌<◌, ◌≤◌, cond, leb, List, [], ◌∷◌, length, get_or, drop, refl, arith, add-one, drop-cons}
-use Rattle.std.proofs.lemmas.List.{drop_all}
-use Rattle.std.proofs.lemmas.Bool.Decides.{nat_tests}
-use Rattle.fill_chips.specs.RangeRows.{allowed_steps, step_within}
+use Rattle.fill_chips.proofs.Words.{◌≡◌, ℕ, suc, ◌+◌, ◌<◌, ◌≤◌, cond, leb, List, [], ◌∷◌, length, get_or, drop, refl, arith, add-one, drop-cons, drop_all}
+use Rattle.fill_chips.proofs.Words.{nat_tests, allowed_steps, step_within}
 
 step-none : (d : ℕ) → step_within [] d ≡ 0
 unfolding step_within

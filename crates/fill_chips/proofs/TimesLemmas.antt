@@ -1,12 +1,7 @@
 -- Counts of asked values and of called words, one by one.
-use Rattle.std.proofs.Common.{◌≡◌, ℕ, ◌+◌, ◌<◌, ◌≤◌, inl, inr, Bool, true, false, cond, eqb, nat_eq, Option, Some, unwrap_or, List, length, get_or, set, take, refl, sym, ap, subst, ◌∙◌, arith, get_or-set_other, get_or-set_same, length-take}
-use Rattle.std.proofs.lemmas.Bool.{cases_eq}
-use Rattle.std.proofs.lemmas.Bool.Decides.{nat_tests}
-use Rattle.std.proofs.lemmas.List.Sums.{count_by-le-length, sum_by_more}
-use Rattle.std.specs.Cmp.Lexicographic.{same_text}
-use lib.Pointwise.{pointwise}
-use Rattle.fill_chips.specs.RangeRows.{times_asked}
-use Rattle.fill_chips.specs.KernelRows.{times_called}
+use Rattle.fill_chips.proofs.Words.{◌≡◌, ℕ, ◌+◌, ◌<◌, ◌≤◌, inl, inr, Bool, true, false, cond, eqb, nat_eq, Option, Some, unwrap_or, List, length, get_or, set}
+use Rattle.fill_chips.proofs.Words.{take, refl, sym, ap, subst, ◌∙◌, arith, get_or-set_other, get_or-set_same, length-take, cases_eq, nat_tests}
+use Rattle.fill_chips.proofs.Words.{count_by-le-length, sum_by_more, same_text, pointwise, times_asked, times_called}
 
 pub times-few : (asked : List ℕ) (i v : ℕ) → times_asked (take i asked) v ≤ i
 times-few asked i v = let few = count_by-le-length (λ value. eqb value v) (take i asked) in omega (arith, few, length-take i asked)

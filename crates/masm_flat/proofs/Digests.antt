@@ -1,8 +1,6 @@
 -- The digest of a block's tree: its elements, and how many they are.
-use Rattle.std.proofs.Common.{◌≡◌, ℕ, zero, suc, ◌<◌, List, [], ◌∷◌, ◌++◌, length, take, drop, refl, ◌∙◌, arith}
-use Rattle.std.proofs.lemmas.List.{length-map}
-use Rattle.std.proofs.lemmas.List.Elements.{All-from_recursion}
-use Rattle.vm_field.specs.Field.{prime, AreElements}
+use Rattle.masm_flat.proofs.Words.{◌≡◌, ℕ, zero, suc, ◌<◌, List, [], ◌∷◌, ◌++◌, length, take, drop, refl, ◌∙◌, arith, length-map, All-from_recursion, prime}
+use Rattle.masm_flat.proofs.Words.{AreElements, lit, Block, Dyn, block_digest, digest_items}
 use Rattle.vm_field.specs.Limits.{number_of_constants}
 use Rattle.vm_field.specs.Machine.{IsWord}
 use Rattle.vm_field.specs.Permutation.{round, rounds, permuted}
@@ -10,9 +8,7 @@ use Rattle.vm_field.specs.Sponge.{absorbed, begun, hashed, sponge_after, squeeze
 use Rattle.vm_field.proofs.Elements.{elements-drop, elements-take}
 use Rattle.vm_field.proofs.PermutationLemmas.{elements-round}
 use Rattle.rpo_hash.proofs.Digests.{hashed-IsWord}
-use Rattle.masm_expand.specs.Expansion.{lit}
-use Rattle.masm_flat.specs.Blocks.{Block, Span, Join, Split, Loop, Call, Syscall, Dyn}
-use Rattle.masm_flat.specs.Lists.{block_digest, digest_items}
+use Rattle.masm_flat.specs.Blocks.{Span, Join, Split, Loop, Call, Syscall}
 
 -- whatever the constants are
 rounds-elements : (n : ℕ) (constants x : List ℕ) → AreElements (rounds (suc n) constants x)

@@ -1,11 +1,7 @@
 -- What the dynexecs of a body ask for, told by the body's form.
-use Rattle.std.proofs.Common.{[], ◌∷◌, ◌++◌, refl, arith}
-use Rattle.std.specs.List.{Contains}
-use Rattle.std.proofs.lemmas.List.Elements.{Contains-append_left, Contains-append_right}
+use Rattle.masm_flat.proofs.Words.{[], ◌∷◌, ◌++◌, refl, arith, Contains, Contains-append_left, Contains-append_right, Position, Body, Empty, Leaf_then}
+use Rattle.masm_flat.proofs.Words.{If_then, While_then, Repeat_then, dynexecs_of}
 use Rattle.masm_tree.specs.declared.terminal.Leaf.TheVariants as leaves
-use Rattle.masm_tree.specs.declared.tree.Position.{Position}
-use Rattle.masm_tree.specs.Trees.{Body, Empty, Leaf_then, If_then, While_then, Repeat_then}
-use Rattle.masm_names.specs.Uses.{dynexecs_of}
 
 -- this holds where the body has a dynexec
 abbrev pub DynexecsOnly : Type 0 → Body → Type 0

@@ -1,14 +1,11 @@
 -- The list of a body, as its blocks are seen, is what it is flattened to with the lists of its procedures.
-use Rattle.std.proofs.Common.{◌≡◌, ℕ, zero, suc, List, [], ◌∷◌, ◌++◌, map, Some, refl, sym, ap, ap₂, ◌∙◌}
-use Rattle.vm_ops.specs.declared.item.Item.{Item}
-use Rattle.masm_tree.specs.Trees.{Body, Source}
-use Rattle.masm_flat.specs.Blocks.{Block, Span, Join, Dyn, View, Piece, Operation, Whole, seen_as, seen_piece, seen_pieces, whole, block_of, blocks_from}
-use Rattle.masm_flat.specs.Flattening.{Known, flat_with}
-use Rattle.masm_flat.specs.Lists.{Outside, ListOf, ListsOf, IsList, nothing, instr, exec, call, procref, syscall, dynexec, branches, loops, repeated, first_export, times, block_digest, digest_items}
+use Rattle.masm_flat.proofs.Words.{◌≡◌, ℕ, zero, suc, List, [], ◌∷◌, ◌++◌, map, Some, refl, sym, ap, ap₂, ◌∙◌, Item, Body, Source, Block, Dyn, Operation}
+use Rattle.masm_flat.proofs.Words.{Whole, whole, block_of, blocks_from, Known, flat_with, Outside, ListOf, ListsOf, IsList, nothing, instr, exec, call}
+use Rattle.masm_flat.proofs.Words.{procref, syscall, dynexec, branches, loops, repeated, first_export, times, block_digest, digest_items, UsesOnly}
+use Rattle.masm_flat.proofs.Words.{target_names}
+use Rattle.masm_flat.specs.Blocks.{Span, Join, View, Piece, seen_as, seen_piece, seen_pieces}
 use Rattle.masm_flat.proofs.DynamicBodies.{DynexecsOnly}
 use Rattle.masm_flat.proofs.Seen.{seen-whole}
-use Rattle.masm_names.proofs.UsesOnly.{UsesOnly}
-use Rattle.masm_names.specs.Uses.{target_names}
 
 module _ {A : Type 0} (v : View A) where
   pub seen-block : (pieces : List (Piece Block)) → seen_as v (block_of pieces) ≡ whole v (seen_pieces (seen_as v) pieces)

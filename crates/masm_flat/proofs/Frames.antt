@@ -1,11 +1,6 @@
 -- The list of a procedure with locals.
-use Rattle.std.proofs.Common.{◌≡◌, ℕ, zero, suc, ◌<◌, ◌-◌, List, [], ◌∷◌, ◌++◌, refl, arith}
-use Rattle.vm_field.specs.Field.{prime}
-use Rattle.vm_ops.specs.declared.op.Op.TheVariants.{FmpUpdate}
-use Rattle.vm_ops.specs.Items.{plain_item}
-use Rattle.masm_expand.specs.Expansion.{lit}
-use Rattle.masm_flat.specs.Blocks.{Piece, Operation}
-use Rattle.masm_flat.specs.Lists.{with_locals}
+use Rattle.masm_flat.proofs.Words.{◌≡◌, ℕ, zero, suc, ◌<◌, ◌-◌, List, [], ◌∷◌, ◌++◌, refl, arith, prime, FmpUpdate, plain_item, lit, Operation, with_locals}
+use Rattle.masm_flat.specs.Blocks.{Piece}
 
 pub with_none : {A : Type 0} (n : ℕ) (pieces : List (Piece A)) → n ≡ 0 → with_locals n pieces ≡ pieces
 with_none zero pieces h = refl

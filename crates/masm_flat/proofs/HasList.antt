@@ -1,14 +1,12 @@
 -- A body has a list where the procedures that it uses, and those that its dynexecs may run, have one, and its system calls lead
 -- to the kernel.
-use Rattle.std.proofs.Common.{◌≡◌, ℕ, List, [], ◌∷◌, ◌++◌, map, Some}
-use Rattle.masm_expand.specs.Expansion.{expansion}
+use Rattle.masm_flat.proofs.Words.{◌≡◌, ℕ, List, [], ◌∷◌, ◌++◌, map, Some, expansion, Body, Empty, Leaf_then, If_then, While_then, Repeat_then, Source, Block}
+use Rattle.masm_flat.proofs.Words.{Dyn, Operation, Whole, block_of, blocks_from, Outside, ListOf, ListsOf, IsList, nothing, instr, exec, call, procref}
+use Rattle.masm_flat.proofs.Words.{syscall, dynexec, branches, loops, repeated, first_export, times, block_digest, digest_items, UsesOnly, SyscallsOnly}
+use Rattle.masm_flat.proofs.Words.{target_names}
 use Rattle.masm_tree.specs.declared.terminal.Leaf.TheVariants as leaves
-use Rattle.masm_tree.specs.Trees.{Body, Empty, Leaf_then, If_then, While_then, Repeat_then, Source}
-use Rattle.masm_flat.specs.Blocks.{Block, Split, Loop, Call, Syscall, Dyn, Piece, Operation, Whole, block_of, blocks_from}
-use Rattle.masm_flat.specs.Lists.{Outside, ListOf, ListsOf, IsList, nothing, instr, exec, call, procref, syscall, dynexec, branches, loops, repeated, first_export, times, block_digest, digest_items}
+use Rattle.masm_flat.specs.Blocks.{Split, Loop, Call, Syscall, Piece}
 use Rattle.masm_flat.proofs.DynamicBodies.{DynexecsOnly}
-use Rattle.masm_names.proofs.UsesOnly.{UsesOnly, SyscallsOnly}
-use Rattle.masm_names.specs.Uses.{target_names}
 
 module _ {source : Source} {out : Outside} (P Q : List ℕ → Type 0) (D : Type 0)
     (used : (name : List ℕ) → P name → (ys : List (Piece Block)) × ListOf source out name ys)

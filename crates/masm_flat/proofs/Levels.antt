@@ -1,8 +1,5 @@
 -- What joining blocks needs of lists.
-use Rattle.std.proofs.Common.{◌≡◌, ◌≢◌, ℕ, zero, suc, ◌<◌, ◌≤◌, List, [], ◌∷◌, ◌++◌, length, refl, arith}
-use Rattle.vm_ops.specs.declared.item.Item.{Item}
-use Rattle.vm_ops.specs.declared.op.Op.TheVariants.{Noop}
-use Rattle.vm_ops.specs.Items.{plain_item}
+use Rattle.masm_flat.proofs.Words.{◌≡◌, ◌≢◌, ℕ, zero, suc, ◌<◌, ◌≤◌, List, [], ◌∷◌, ◌++◌, length, refl, arith, Item, Noop, plain_item}
 use Rattle.masm_flat.specs.Blocks.{span_before, paired, joined, all_joined}
 
 module _ {A : Type 0} (span : List Item → A) (join : A → A → A) where

@@ -11,3 +11,4 @@ pub mod Statements
 pub mod Targets
 pub mod Frames
 pub mod Times
+pub mod Words

@@ -1,9 +1,9 @@
 -- A body has one list at most, and so have procedures.
-use Rattle.std.proofs.Common.{◌≡◌, ℕ, List, ◌∷◌, ◌++◌, map, Option, Some, refl, sym, ap, ap₂, subst, ◌∙◌, unwrap_or}
-use Rattle.masm_expand.specs.Expansion.{expansion}
-use Rattle.masm_tree.specs.Trees.{Body, Source}
-use Rattle.masm_flat.specs.Blocks.{Block, Split, Loop, Call, Syscall, Dyn, Piece, Operation, Whole, block_of, blocks_from}
-use Rattle.masm_flat.specs.Lists.{Outside, ListOf, own, ListsOf, no_list, list_before, IsList, nothing, instr, exec, call, procref, syscall, dynexec, branches, loops, repeated, times, with_locals, block_digest, digest_items}
+use Rattle.masm_flat.proofs.Words.{◌≡◌, ℕ, List, ◌∷◌, ◌++◌, map, Option, Some, refl, sym, ap, ap₂, subst, ◌∙◌, expansion, Body, Source, Block, Dyn, Operation}
+use Rattle.masm_flat.proofs.Words.{Whole, block_of, blocks_from, Outside, ListOf, own, ListsOf, no_list, list_before, IsList, nothing, instr, exec, call}
+use Rattle.masm_flat.proofs.Words.{procref, syscall, dynexec, branches, loops, repeated, times, with_locals, block_digest, digest_items}
+use Rattle.std.proofs.Common.{unwrap_or}
+use Rattle.masm_flat.specs.Blocks.{Split, Loop, Call, Syscall, Piece}
 
 same_some : {A : Type 0} {o : Option A} {x y : A} → o ≡ Some x → o ≡ Some y → x ≡ y
 same_some {x = x} p q = ap (λ o. unwrap_or o x) (sym p ∙ q)

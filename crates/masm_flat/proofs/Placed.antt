@@ -1,12 +1,8 @@
 -- What is found by a name, and the place of the name.
-use Rattle.std.proofs.Common.{◌≡◌, ℕ, Bor, length, ◌+◌, cond, List, [], ◌∷◌, map, Option, Some, None, inl, inr, refl, ap, ◌∙◌, sym, bytes_eq, add-one}
-use Rattle.std.proofs.lemmas.Bool.{cases_Bool}
-use Rattle.std.proofs.lemmas.Option.{slice_get_past, slice_get_read}
+use Rattle.masm_flat.proofs.Words.{◌≡◌, ℕ, Bor, length, ◌+◌, cond, List, [], ◌∷◌, map, Option, Some, None, inl, inr, refl, ap, ◌∙◌, sym, bytes_eq, add-one}
+use Rattle.masm_flat.proofs.Words.{cases_Bool, slice_get_past, slice_get_read, find, option_map, option_copied, place_in}
 use Rattle.std.specs.Prelude.{option_and_then, slice_get}
-use Rattle.std.specs.List.{find}
-use Rattle.std.specs.Option.{option_map, option_copied}
 use Rattle.std.specs.Slice.{IsItemAt}
-use Rattle.masm_names.specs.Uses.{place_in}
 
 behind : {X : Type 0} (x : X) (xs : List X) (o : Option ℕ)
     → option_and_then (slice_get (x ∷ xs)) (option_map (λ i. i + 1) o) ≡ option_and_then (slice_get xs) o

@@ -1,10 +1,7 @@
 -- What a list comes to, where its blocks are seen as something else.
-use Rattle.std.proofs.Common.{◌≡◌, ℕ, zero, suc, List, [], ◌∷◌, ◌++◌, length, map, refl, sym, ap, ap₂, ◌∙◌}
-use Rattle.std.proofs.lemmas.List.{length-map}
-use Rattle.vm_ops.specs.declared.item.Item.{Item}
-use Rattle.vm_ops.specs.declared.op.Op.TheVariants.{Noop}
-use Rattle.vm_ops.specs.Items.{plain_item}
-use Rattle.masm_flat.specs.Blocks.{Piece, Operation, Whole, span_before, blocks_behind, paired, joined, all_joined, whole_of, seen_pieces}
+use Rattle.masm_flat.proofs.Words.{◌≡◌, ℕ, zero, suc, List, [], ◌∷◌, ◌++◌, length, map, refl, sym, ap, ap₂, ◌∙◌, length-map, Item, Noop, plain_item}
+use Rattle.masm_flat.proofs.Words.{Operation, Whole}
+use Rattle.masm_flat.specs.Blocks.{Piece, span_before, blocks_behind, paired, joined, all_joined, whole_of, seen_pieces}
 
 -- a view of blocks that goes with spans and joins
 module _ {A B : Type 0} (f : A → B) (span : List Item → A) (join : A → A → A) (span' : List Item → B) (join' : B → B → B)

@@ -1,29 +1,16 @@
 -- What a table serves, use by use.
-use Rattle.std.proofs.Common.{◌≡◌, ◌≢◌, ℕ, ◌+◌, ◌-◌, ◌<◌, ◌≤◌, false, List, [], ◌∷◌, ◌++◌, length, set, get_or, Option, Some, None, Result, Ok, Err, Vec, Global, zero, suc, inl, inr, refl, sym, ap, ap₂, subst, ◌∙◌, append_assoc, arith}
-use Rattle.std.proofs.lemmas.Bool.{cases_lt}
-use Rattle.std.proofs.lemmas.Bool.Decides.{eqb_tells}
-use Rattle.std.proofs.lemmas.List.{append-nil, get_or-set_same, get_or-set_other, get_or_past, length-set}
-use Rattle.std.proofs.lemmas.List.Elements.{Contains-append_right}
-use Rattle.std.specs.List.{Contains, cons_option}
-use Rattle.std.specs.Option.{option_map}
+use Rattle.masm_flat.proofs.Words.{◌≡◌, ◌≢◌, ℕ, ◌+◌, ◌-◌, ◌<◌, ◌≤◌, false, List, [], ◌∷◌, ◌++◌, length, set, get_or, Option, Some, None, Result, Ok, Err, Vec}
+use Rattle.masm_flat.proofs.Words.{Global, zero, suc, inl, inr, refl, sym, ap, ap₂, subst, ◌∙◌, append_assoc, arith, cases_lt, eqb_tells, get_or-set_same}
+use Rattle.masm_flat.proofs.Words.{get_or-set_other, get_or_past, length-set, Contains-append_right, Contains, cons_option, option_map, slice_get_read}
+use Rattle.masm_flat.proofs.Words.{slice_get_past, Tree, Position, Stmt, Empty, stmt_view, body_of, as_tree, Known, flat_with, list_at, digest_at, tree_at}
+use Rattle.masm_flat.proofs.Words.{dispatch_in, left_at, TakesList, Keeps, Serves, ComesTo, pieces_of, place_at, Use, Own, Kernel, use_at, ref_at, uses_of}
+use Rattle.std.proofs.lemmas.List.{append-nil}
 use Rattle.std.specs.Prelude.{unwrap_or, slice_get, OnOk}
-use Rattle.std.proofs.lemmas.Option.{slice_get_read, slice_get_past}
-use Rattle.block_tree.specs.Trees.{Tree}
-use Rattle.masm_tree.specs.declared.tree.Position.{Position}
-use Rattle.masm_tree.specs.declared.tree.Stmt.{Stmt}
-use Rattle.masm_tree.specs.Trees.{Empty}
-use Rattle.masm_tree.specs.Views.{stmt_view, body_of}
 use Rattle.masm_flat.specs.declared.known.Scope.{Scope}
 use Rattle.masm_flat.specs.declared.table.Table.{Table}
 use Rattle.masm_flat.specs.declared.piece.Piece as code
-use Rattle.masm_flat.specs.Blocks.{Piece, as_tree}
-use Rattle.masm_flat.specs.Flattening.{Known, flat_with}
-use Rattle.masm_flat.specs.KnownLists.{list_at, digest_at, tree_at, dispatch_in}
-use Rattle.masm_flat.specs.Taking.{left_at, TakesList, Keeps, Serves, ComesTo}
-use Rattle.masm_flat.specs.Views.{pieces_of}
-use Rattle.masm_names.specs.Names.{place_at}
+use Rattle.masm_flat.specs.Blocks.{Piece}
 use Rattle.masm_names.specs.UsedPlaces.{place_used, places_used, times_among}
-use Rattle.masm_names.specs.Uses.{Use, Own, Kernel, use_at, ref_at, uses_of}
 use Rattle.masm_names.proofs.TimesAmong.{times_yes, times_no, times_some}
 
 -- lists that stay

@@ -1,21 +1,17 @@
 -- The first statement of a body, and those behind it.
-use Rattle.std.proofs.Common.{◌≡◌, ℕ, ◌+◌, Bool, true, false, List, [], ◌∷◌, ◌++◌, map, is_some, slice_get, ◌||◌, refl, sym, ap, subst, ◌∙◌, append_assoc, arith, Vec, Global}
+use Rattle.masm_flat.proofs.Words.{◌≡◌, ℕ, ◌+◌, Bool, true, false, List, [], ◌∷◌, ◌++◌, map, is_some, ◌||◌, refl, sym, ap, subst, ◌∙◌, append_assoc, arith}
+use Rattle.masm_flat.proofs.Words.{Vec, Global, Stmt, Position, Body, Empty, Leaf_then, If_then, While_then, Repeat_then, body_of_nil, expansion, stmt_view}
+use Rattle.masm_flat.proofs.Words.{body_of, Operation, Whole, whole, Known, flat_with, HasLocals, times, digest_items, Own, Kernel, use_at, ref_at, uses_of}
+use Rattle.masm_flat.proofs.Words.{dynexecs_of}
+use Rattle.std.proofs.Common.{slice_get}
 use Rattle.std.proofs.lemmas.List.{append-nil}
-use Rattle.masm_tree.specs.declared.tree.Stmt.{Stmt}
 use Rattle.masm_tree.specs.declared.tree.Stmt.TheOpen.{Stmt-F}
 use Rattle.masm_tree.specs.declared.tree.Stmt.TheFolds.{fold_out-Stmt}
-use Rattle.masm_tree.specs.declared.tree.Position.{Position}
 use Rattle.masm_tree.specs.declared.tree.Stmt.TheVariants.{Instr, If, While, Repeat, Exec, Call, Syscall, ProcRef, DynExec}
-use Rattle.masm_tree.specs.Trees.{Body, Empty, Leaf_then, If_then, While_then, Repeat_then}
-use Rattle.masm_tree.proofs.Mirror.{body_of_nil, view-Instr, view-If, view-While, view-Repeat, view-Exec, view-Call, view-Syscall, view-ProcRef, view-DynExec}
+use Rattle.masm_tree.proofs.Mirror.{view-Instr, view-If, view-While, view-Repeat, view-Exec, view-Call, view-Syscall, view-ProcRef, view-DynExec}
 use Rattle.masm_instr.specs.Instructions.{Instruction, HasLocal}
-use Rattle.masm_expand.specs.Expansion.{expansion}
-use Rattle.masm_tree.specs.Views.{joined, add_step, stmt_view, body_of}
-use Rattle.masm_flat.specs.Blocks.{View, Piece, Operation, Whole, whole}
-use Rattle.masm_flat.specs.Flattening.{Known, flat_with}
-use Rattle.masm_tree.specs.Locals.{HasLocals}
-use Rattle.masm_flat.specs.Lists.{times, digest_items}
-use Rattle.masm_names.specs.Uses.{Own, Kernel, use_at, ref_at, uses_of, dynexecs_of}
+use Rattle.masm_tree.specs.Views.{joined, add_step}
+use Rattle.masm_flat.specs.Blocks.{View, Piece}
 
 pub body_of_more : (s : Stmt) (ss : List Stmt) → body_of (s ∷ ss) ≡ stmt_view s (body_of ss)
 unfolding body_of

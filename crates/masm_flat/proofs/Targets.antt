@@ -1,10 +1,7 @@
 -- The lists of procedures by their names, and their blocks.
-use Rattle.std.proofs.Common.{◌≡◌, ℕ, List, [], ◌∷◌, map, refl, ap, arith}
-use Rattle.std.specs.List.{Contains}
-use Rattle.std.proofs.lemmas.List.Elements.{Contains-append_right}
-use Rattle.masm_tree.specs.Trees.{Source}
-use Rattle.masm_flat.specs.Blocks.{Block, Piece, View, block_of, blocks_from, seen_as, seen_all}
-use Rattle.masm_flat.specs.Lists.{Outside, ListOf, ListsOf, no_list, list_before}
+use Rattle.masm_flat.proofs.Words.{◌≡◌, ℕ, List, [], ◌∷◌, map, refl, ap, arith, Contains, Contains-append_right, Source, Block, block_of, blocks_from}
+use Rattle.masm_flat.proofs.Words.{Outside, ListOf, ListsOf, no_list, list_before}
+use Rattle.masm_flat.specs.Blocks.{Piece, View, seen_as, seen_all}
 
 -- the blocks of lists are seen one by one
 pub seen-targets : {A : Type 0} (v : View A) (lists : List (List (Piece Block)))

@@ -1,11 +1,8 @@
 -- A list so many times.
-use Rattle.std.proofs.Common.{◌≡◌, ℕ, zero, suc, ◌+◌, List, [], ◌++◌, refl, sym, ap, ◌∙◌, append_assoc, add-one}
+use Rattle.masm_flat.proofs.Words.{◌≡◌, ℕ, zero, suc, ◌+◌, List, [], ◌++◌, refl, sym, ap, ◌∙◌, append_assoc, add-one, Tree, times, pieces_of}
 use Rattle.std.proofs.lemmas.List.{append-nil}
-use Rattle.block_tree.specs.Trees.{Tree}
 use Rattle.masm_flat.specs.declared.piece.Piece.{Piece}
 use Rattle.masm_flat.specs.Blocks as blocks
-use Rattle.masm_flat.specs.Lists.{times}
-use Rattle.masm_flat.specs.Views.{pieces_of}
 
 pub times_suc : {A : Type 0} (n : ℕ) (xs : List A) → times (suc n) xs ≡ times n xs ++ xs
 times_suc zero xs = append-nil xs

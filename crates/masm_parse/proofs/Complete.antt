@@ -1,14 +1,10 @@
 -- The machine against the grammar: what is spelled runs, and what has run can be gone on to a source.
-use Rattle.std.proofs.Common.{◌≡◌, Bool, true, false, cond, List, [], ◌∷◌, ◌++◌, Option, Some, None, refl, ap, sym, subst, ◌∙◌, append_assoc}
+use Rattle.masm_parse.proofs.Words.{◌≡◌, Bool, true, false, cond, List, [], ◌∷◌, ◌++◌, Option, Some, None, refl, ap, sym, subst, ◌∙◌, append_assoc, Role}
+use Rattle.masm_parse.proofs.Words.{Header, Terminal, Body, Empty, Leaf_then, If_then, While_then, Repeat_then, Procedure, append, OpenStatement, In_if}
+use Rattle.masm_parse.proofs.Words.{In_else, In_while, In_repeat, Configuration, Top, Inside, Behind, procedure, closed, shift, may_begin}
 use Rattle.std.specs.Prelude.{option_and_then}
-use Rattle.masm_tree.specs.declared.terminal.Role.{Role}
 use Rattle.masm_tree.specs.declared.terminal.Role.TheVariants as roles
-use Rattle.masm_tree.specs.declared.terminal.Header.{Header}
-use Rattle.masm_tree.specs.declared.terminal.Terminal.{Terminal}
 use Rattle.masm_tree.specs.declared.terminal.Terminal.TheVariants as terminals
-use Rattle.masm_tree.specs.Trees.{Body, Empty, Leaf_then, If_then, While_then, Repeat_then, Procedure, append}
-use Rattle.masm_parse.specs.Machine.{OpenStatement, In_if, In_else, In_while, In_repeat, Configuration, Top, Inside, Behind, procedure, closed, shift}
-use Rattle.masm_tree.specs.Terminals.{may_begin}
 use Rattle.masm_parse.specs.Grammar.{Spells, nothing, leaf, if_only, if_else, while, repeated, is_item, SpellsProcs, none, constant, item, SpellsMain, SpellsParts}
 
 -- the configuration behind tokens, where each fits

@@ -1,14 +1,10 @@
 -- How many procedures and statements are open, in each configuration of the machine.
-use Rattle.std.proofs.Common.{◌≡◌, Bool, true, false, ◌+◌, ◌&&◌, nat_le, cond, List, [], ◌∷◌, ◌++◌, length, Option, Some, None, ap, ◌∙◌, arith, leb-true, le-leb}
+use Rattle.masm_parse.proofs.Words.{◌≡◌, Bool, true, false, ◌+◌, ◌&&◌, nat_le, cond, List, [], ◌∷◌, ◌++◌, length, Option, Some, None, ap, ◌∙◌, arith}
+use Rattle.masm_parse.proofs.Words.{leb-true, le-leb, Role, Header, Terminal, Empty, Procedure, In_if, Configuration, Top, Inside, Behind, procedure, closed}
+use Rattle.masm_parse.proofs.Words.{shift, is_too_deep, may_begin, is_opening}
 use Rattle.std.proofs.lemmas.Bool.{and_parts}
-use Rattle.masm_tree.specs.declared.terminal.Role.{Role}
 use Rattle.masm_tree.specs.declared.terminal.Role.TheVariants as roles
-use Rattle.masm_tree.specs.declared.terminal.Header.{Header}
-use Rattle.masm_tree.specs.declared.terminal.Terminal.{Terminal}
 use Rattle.masm_tree.specs.declared.terminal.Terminal.TheVariants as terminals
-use Rattle.masm_tree.specs.Trees.{Empty, Procedure}
-use Rattle.masm_parse.specs.Machine.{In_if, Configuration, Top, Inside, Behind, procedure, closed, shift, is_too_deep}
-use Rattle.masm_tree.specs.Terminals.{may_begin, is_opening}
 use Rattle.masm_parse.specs.Refusals.{begins, ends, begun, done, IsTooDeep}
 
 begun_snoc : (ts : List Terminal) (t : Terminal) → begun (ts ++ t ∷ []) ≡ begun ts + begins t

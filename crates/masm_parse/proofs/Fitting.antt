@@ -1,26 +1,13 @@
 -- Each local that is named in what the parser holds is one of its procedure's.
-use Rattle.std.proofs.Common.{◌≡◌, ℕ, Bool, true, false, cond, List, [], ◌∷◌, ◌++◌, Option, Some, None, Result, Ok, Err, refl, sym, ap, subst}
-use Rattle.std.specs.Option.{option_map}
-use Rattle.std.specs.List.{AllByRecursion}
-use Rattle.masm_reading.specs.declared.constant.Const.{Const}
-use Rattle.masm_lex.specs.declared.list.Token.{Token}
-use Rattle.masm_lex.specs.declared.cursor.Cursor.{Cursor}
-use Rattle.masm_lex.specs.Tokens.{place_after, text_of}
-use Rattle.masm_tree.specs.declared.refusal.Cause.{Cause}
-use Rattle.masm_tree.specs.declared.terminal.Header.{Header}
-use Rattle.masm_tree.specs.declared.terminal.Role.{Role}
+use Rattle.masm_parse.proofs.Words.{◌≡◌, ℕ, Bool, true, false, cond, List, [], ◌∷◌, ◌++◌, Option, Some, None, Result, Ok, Err, refl, sym, ap, subst}
+use Rattle.masm_parse.proofs.Words.{option_map, AllByRecursion, Const, Token, Cursor, place_after, text_of, Cause, Header, Role, Symbol, Terminal, Context}
+use Rattle.masm_parse.proofs.Words.{known_after, may_begin, Body, Empty, Leaf_then, If_then, While_then, Repeat_then, Procedure, Source, append, ParseError}
+use Rattle.masm_parse.proofs.Words.{Bad, OpenStatement, In_if, In_else, In_while, In_repeat, Configuration, Top, Inside, Behind, Parse, start, reduce, closed}
+use Rattle.masm_parse.proofs.Words.{procedure, shift, settled, moved, at_of, step, ended, parse_from, parsed}
 use Rattle.masm_tree.specs.declared.terminal.Role.TheVariants as roles
-use Rattle.masm_tree.specs.declared.terminal.Symbol.{Symbol}
-use Rattle.masm_tree.specs.declared.terminal.Terminal.{Terminal}
 use Rattle.masm_tree.specs.declared.terminal.Terminal.TheVariants as terminals
-use Rattle.masm_tree.specs.Classify.{Context, known_after}
 use Rattle.masm_tree.specs.Locals.{HasLocals, ProcedureFits, SourceFits}
-use Rattle.masm_tree.specs.Terminals.{may_begin}
-use Rattle.masm_tree.specs.Trees.{Body, Empty, Leaf_then, If_then, While_then, Repeat_then, Procedure, Source, append}
 use Rattle.masm_tree.proofs.TerminalLocals.{TerminalFits, SymbolFits, fits-symbol}
-use Rattle.masm_parse.specs.declared.refusal.ParseError.{ParseError}
-use Rattle.masm_parse.specs.declared.refusal.ParseError.TheVariants.{Bad}
-use Rattle.masm_parse.specs.Machine.{OpenStatement, In_if, In_else, In_while, In_repeat, Configuration, Top, Inside, Behind, Parse, start, reduce, closed, procedure, shift, settled, moved, at_of, step, ended, parse_from, parsed}
 
 fits-append : (locals : ℕ) (b c : Body) → HasLocals locals b → HasLocals locals c → HasLocals locals (append b c)
 fits-append locals Empty c h k = k

@@ -1,27 +1,14 @@
 -- What the parser holds is in form.
-use Rattle.std.proofs.Common.{◌≡◌, ℕ, ◌≤◌, Bool, true, false, cond, List, [], ◌∷◌, ◌++◌, Option, Some, None, Result, Ok, Err, subst}
-use Rattle.std.specs.Option.{option_map}
-use Rattle.std.specs.List.{AllByRecursion}
-use Rattle.masm_reading.specs.declared.constant.Const.{Const}
-use Rattle.masm_lex.specs.declared.list.Token.{Token}
-use Rattle.masm_lex.specs.declared.cursor.Cursor.{Cursor}
-use Rattle.masm_lex.specs.Tokens.{place_after, text_of}
-use Rattle.masm_tree.specs.declared.refusal.Cause.{Cause}
-use Rattle.masm_tree.specs.declared.terminal.Header.{Header}
-use Rattle.masm_tree.specs.declared.terminal.Role.{Role}
+use Rattle.masm_parse.proofs.Words.{◌≡◌, ℕ, ◌≤◌, Bool, true, false, cond, List, [], ◌∷◌, ◌++◌, Option, Some, None, Result, Ok, Err, subst, option_map}
+use Rattle.masm_parse.proofs.Words.{AllByRecursion, Const, Token, Cursor, place_after, text_of, Cause, Header, Role, Symbol, Terminal, known_after, may_begin}
+use Rattle.masm_parse.proofs.Words.{Body, Empty, Leaf_then, If_then, While_then, Repeat_then, Procedure, Source, append, ParseError, Bad, OpenStatement}
+use Rattle.masm_parse.proofs.Words.{In_if, In_else, In_while, In_repeat, Configuration, Top, Inside, Behind, Parse, start, reduce, closed, procedure, shift}
+use Rattle.masm_parse.proofs.Words.{settled, moved, at_of, step, ended, parse_from, parsed}
 use Rattle.masm_tree.specs.declared.terminal.Role.TheVariants as roles
-use Rattle.masm_tree.specs.declared.terminal.Symbol.{Symbol}
-use Rattle.masm_tree.specs.declared.terminal.Terminal.{Terminal}
 use Rattle.masm_tree.specs.declared.terminal.Terminal.TheVariants as terminals
-use Rattle.masm_tree.specs.Classify.{known_after}
 use Rattle.masm_tree.specs.Forms.{BodyIsInForm, ProcedureIsInForm, SourceIsInForm}
-use Rattle.masm_tree.specs.Terminals.{may_begin}
-use Rattle.masm_tree.specs.Trees.{Body, Empty, Leaf_then, If_then, While_then, Repeat_then, Procedure, Source, append}
 use Rattle.masm_tree.proofs.TerminalForms.{TerminalIsInForm, form-classified}
-use Rattle.masm_parse.specs.declared.refusal.ParseError.{ParseError}
-use Rattle.masm_parse.specs.declared.refusal.ParseError.TheVariants.{Bad}
 use Rattle.masm_parse.specs.Laws.{TreesAreInForm}
-use Rattle.masm_parse.specs.Machine.{OpenStatement, In_if, In_else, In_while, In_repeat, Configuration, Top, Inside, Behind, Parse, start, reduce, closed, procedure, shift, settled, moved, at_of, step, ended, parse_from, parsed}
 use Rattle.masm_parse.proofs.Fitting.{same_tree}
 
 form-append : (b c : Body) → BodyIsInForm b → BodyIsInForm c → BodyIsInForm (append b c)

@@ -1,25 +1,13 @@
 -- The machine's answer is the tree where no token is refused, and else the least refusal.
-use Rattle.std.proofs.Common.{◌≡◌, ℕ, zero, suc, Bool, true, false, ◌+◌, ◌<◌, ◌≤◌, List, [], ◌∷◌, ◌++◌, length, drop, Option, Some, None, Result, Ok, Err, inl, inr, refl, ap, sym, subst, ◌∙◌, append_assoc, append-nil, arith, length-append}
+use Rattle.masm_parse.proofs.Words.{◌≡◌, ℕ, zero, suc, Bool, true, false, ◌+◌, ◌<◌, ◌≤◌, List, [], ◌∷◌, ◌++◌, length, drop, Option, Some, None, Result, Ok}
+use Rattle.masm_parse.proofs.Words.{Err, inl, inr, refl, ap, sym, subst, ◌∙◌, append_assoc, append-nil, arith, length-append, map-append, option_map, Const}
+use Rattle.masm_parse.proofs.Words.{Cursor, Token, place_after, text_of, Cause, ParseError, Bad, Memory, Terminal, Symbol, order, Context, known_after}
+use Rattle.masm_parse.proofs.Words.{classify, Procedure, Source, Configuration, Top, Inside, Behind, Parse, shift, is_too_deep, advance, moved, step, at_of}
+use Rattle.masm_parse.proofs.Words.{ended, parse_from, start, parsed, constants}
 use Rattle.std.proofs.lemmas.Bool.Decides.{leb_tells}
-use Rattle.std.proofs.lemmas.List.{map-append}
-use Rattle.std.specs.Option.{option_map}
-use Rattle.masm_reading.specs.declared.constant.Const.{Const}
-use Rattle.masm_lex.specs.declared.cursor.Cursor.{Cursor}
-use Rattle.masm_lex.specs.declared.list.Token.{Token}
-use Rattle.masm_lex.specs.Tokens.{place_after, text_of}
-use Rattle.masm_tree.specs.declared.refusal.Cause.{Cause}
 use Rattle.masm_tree.specs.declared.refusal.Cause.TheVariants as causes
-use Rattle.masm_parse.specs.declared.refusal.ParseError.{ParseError}
-use Rattle.masm_parse.specs.declared.refusal.ParseError.TheVariants.{Bad, Memory}
-use Rattle.masm_tree.specs.declared.terminal.Terminal.{Terminal}
 use Rattle.masm_tree.specs.declared.terminal.Terminal.TheVariants as terminals
-use Rattle.masm_tree.specs.declared.terminal.Symbol.{Symbol}
-use Rattle.masm_tree.specs.Causes.{order}
-use Rattle.masm_tree.specs.Classify.{Context, known_after, classify}
-use Rattle.masm_tree.specs.Trees.{Procedure, Source}
-use Rattle.masm_parse.specs.Machine.{Configuration, Top, Inside, Behind, Parse, shift, is_too_deep, advance, moved, step, at_of, ended, parse_from, start, parsed}
 use Rattle.masm_parse.specs.Grammar.{none, SpellsParts, IsSource}
-use Rattle.masm_tree.specs.Terminals.{constants}
 use Rattle.masm_parse.specs.Refusals.{symbols_of, terminals_of, source_symbols, FitsAfter, IsTooDeep, HasCause, RefusesToken, Parses, at_first, IsParseAnswer, LeastRefusal, ParsesOnce}
 use Rattle.masm_parse.proofs.Complete.{run, run-append, last_configuration, whole_runs, dies}
 use Rattle.masm_parse.proofs.Standing.{Standing, StandingIf, kept, Finishes, finish, finished_source, fits}

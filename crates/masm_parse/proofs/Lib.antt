@@ -8,3 +8,4 @@ pub mod Fitting
 pub mod Positions
 pub mod Ordering
 pub mod Forming
+pub mod Words

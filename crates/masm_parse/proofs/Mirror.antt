@@ -1,5 +1,5 @@
 -- The lists of the code against the bodies and configurations of the definitions.
-use Rattle.std.proofs.Common.{◌≡◌, List, [], ◌∷◌, ◌++◌, map, reverse, length, refl, ap, ◌∙◌}
+use Rattle.masm_parse.proofs.Words.{◌≡◌, List, [], ◌∷◌, ◌++◌, map, reverse, length, refl, ap, ◌∙◌}
 use Rattle.std.proofs.lemmas.List.{length-map, length-reverse, reverse-append}
 use Rattle.masm_tree.proofs.Mirror.{body_of_push, body_of_nil, view-Instr, view-Exec, view-Call, view-Syscall, view-ProcRef, view-DynExec, view-If, view-While, view-Repeat}
 use Rattle.masm_parse.specs.declared.configuration.OpenConstruct.{OpenConstruct}

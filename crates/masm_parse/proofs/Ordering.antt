@@ -1,29 +1,17 @@
 -- Each tree is in the order of its source.
-use Rattle.std.proofs.Common.{◌≡◌, ℕ, Bool, true, false, List, [], ◌∷◌, ◌++◌, map, Option, Some, None, Result, Ok, Err, IfOk, ap, sym, subst, ◌∙◌, inl, inr, append_assoc, append-nil}
-use Rattle.std.proofs.lemmas.List.{map-append}
-use Rattle.std.specs.List.{AllByRecursion}
-use Rattle.std.specs.Option.{option_map}
+use Rattle.masm_parse.proofs.Words.{◌≡◌, ℕ, Bool, true, false, List, [], ◌∷◌, ◌++◌, map, Option, Some, None, Result, Ok, Err, IfOk, ap, sym, subst, ◌∙◌, inl}
+use Rattle.masm_parse.proofs.Words.{inr, append_assoc, append-nil, map-append, AllByRecursion, option_map, Cursor, Token, place_after, text_of, lexed, Cause}
+use Rattle.masm_parse.proofs.Words.{ParseError, Bad, Terminal, Symbol, Position, constants, const_positions, terminal_positions, Configuration, Top, Inside}
+use Rattle.masm_parse.proofs.Words.{Behind, Parse, start, shift, settled, moved, at_of, step, ended, parse_from, parsed, Procedure, Source, position_of}
+use Rattle.masm_parse.proofs.Words.{Context, known_after, classify}
 use Rattle.answers.specs.Gives.{Gives}
-use Rattle.masm_lex.specs.declared.cursor.Cursor.{Cursor}
-use Rattle.masm_lex.specs.declared.list.Token.{Token}
-use Rattle.masm_lex.specs.Tokens.{place_after, text_of, lexed}
 use Rattle.masm_lex.specs.Order.{Ascends, Precedes}
 use Rattle.masm_lex.proofs.Ascending.{tokens_ascend}
-use Rattle.masm_tree.specs.declared.refusal.Cause.{Cause}
-use Rattle.masm_parse.specs.declared.refusal.ParseError.{ParseError}
-use Rattle.masm_parse.specs.declared.refusal.ParseError.TheVariants.{Bad}
-use Rattle.masm_tree.specs.declared.terminal.Terminal.{Terminal}
 use Rattle.masm_tree.specs.declared.terminal.Terminal.TheVariants as terminals
-use Rattle.masm_tree.specs.declared.terminal.Symbol.{Symbol}
-use Rattle.masm_tree.specs.declared.tree.Position.{Position}
 use Rattle.masm_tree.specs.declared.tree.Ast.{Ast}
-use Rattle.masm_tree.specs.Terminals.{constants, const_positions, terminal_positions}
-use Rattle.masm_parse.specs.Machine.{Configuration, Top, Inside, Behind, Parse, start, shift, settled, moved, at_of, step, ended, parse_from, parsed}
 use Rattle.masm_parse.specs.Order.{StandsBefore, body_positions, procedure_positions, main_positions, IsInOrder, TreesAreInOrder, ProceduresAscend}
-use Rattle.masm_tree.specs.Trees.{Procedure, Source, position_of}
 use Rattle.masm_tree.specs.Views.{source_of}
 use Rattle.masm_parse.specs.Views.{refusal_in}
-use Rattle.masm_tree.specs.Classify.{Context, known_after, classify}
 use Rattle.masm_parse.proofs.Fitting.{same_tree}
 use Rattle.masm_parse.proofs.Positions.{procs_positions, configuration_positions, HasPositions, positions_shifted}
 use Rattle.masm_tree.proofs.TerminalPositions.{AreAt, IsAt, at-symbol}

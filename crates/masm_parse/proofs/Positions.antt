@@ -1,15 +1,10 @@
 -- The places that what the parser holds has, and those that a token adds.
-use Rattle.std.proofs.Common.{◌≡◌, Bool, true, false, cond, List, [], ◌∷◌, ◌++◌, Option, Some, None, refl, ap, sym, ◌∙◌, append_assoc, append-nil}
-use Rattle.std.specs.List.{flat_map}
-use Rattle.masm_tree.specs.declared.tree.Position.{Position}
-use Rattle.masm_tree.specs.declared.terminal.Role.{Role}
+use Rattle.masm_parse.proofs.Words.{◌≡◌, Bool, true, false, cond, List, [], ◌∷◌, ◌++◌, Option, Some, None, refl, ap, sym, ◌∙◌, append_assoc, append-nil}
+use Rattle.masm_parse.proofs.Words.{flat_map, Position, Role, Header, Terminal, Body, Empty, Leaf_then, If_then, While_then, Repeat_then, Procedure, append}
+use Rattle.masm_parse.proofs.Words.{OpenStatement, In_if, In_else, In_while, In_repeat, Configuration, Top, Inside, Behind, procedure, reduce, closed, shift}
+use Rattle.masm_parse.proofs.Words.{may_begin, terminal_positions}
 use Rattle.masm_tree.specs.declared.terminal.Role.TheVariants as roles
-use Rattle.masm_tree.specs.declared.terminal.Header.{Header}
-use Rattle.masm_tree.specs.declared.terminal.Terminal.{Terminal}
 use Rattle.masm_tree.specs.declared.terminal.Terminal.TheVariants as terminals
-use Rattle.masm_tree.specs.Trees.{Body, Empty, Leaf_then, If_then, While_then, Repeat_then, Procedure, append}
-use Rattle.masm_parse.specs.Machine.{OpenStatement, In_if, In_else, In_while, In_repeat, Configuration, Top, Inside, Behind, procedure, reduce, closed, shift}
-use Rattle.masm_tree.specs.Terminals.{may_begin, terminal_positions}
 use Rattle.masm_parse.specs.Order.{body_positions, procedure_positions}
 
 abbrev pub open_positions : OpenStatement → List Position

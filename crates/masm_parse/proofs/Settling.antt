@@ -1,9 +1,7 @@
 -- The first cause that stands of a token, by what is known of it.
-use Rattle.std.proofs.Common.{◌≡◌, Bool, true, false, ◌<◌, ◌≤◌, cond, Option, Some, None, Result, Ok, Err, refl, subst, arith, ltb-true, ltb-false}
-use Rattle.masm_tree.specs.declared.refusal.Cause.{Cause}
+use Rattle.masm_parse.proofs.Words.{◌≡◌, Bool, true, false, ◌<◌, ◌≤◌, cond, Option, Some, None, Result, Ok, Err, refl, subst, arith, ltb-true, ltb-false}
+use Rattle.masm_parse.proofs.Words.{Cause, order, is_early, Parse, settled}
 use Rattle.masm_tree.specs.declared.refusal.Cause.TheVariants as causes
-use Rattle.masm_tree.specs.Causes.{order, is_early}
-use Rattle.masm_parse.specs.Machine.{Parse, settled}
 use Rattle.masm_parse.specs.Refusals.{Has, by_itself, misfit, too_deep}
 
 abbrev pub Settles : Option Cause → Type 0 → Type 0 → Option Parse → Result Parse Cause → Type 0

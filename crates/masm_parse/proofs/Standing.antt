@@ -1,14 +1,10 @@
 -- What the tokens so far are in each configuration of the machine, and how they go on to a source.
-use Rattle.std.proofs.Common.{◌≡◌, ℕ, Bool, true, false, cond, List, [], ◌∷◌, ◌++◌, Option, Some, None, refl, ap, sym, subst, ◌∙◌, append_assoc, append-nil, codes}
-use Rattle.masm_tree.specs.declared.tree.Position.{Position}
-use Rattle.masm_tree.specs.declared.terminal.Role.{Role}
+use Rattle.masm_parse.proofs.Words.{◌≡◌, ℕ, Bool, true, false, cond, List, [], ◌∷◌, ◌++◌, Option, Some, None, refl, ap, sym, subst, ◌∙◌, append_assoc}
+use Rattle.masm_parse.proofs.Words.{append-nil, codes, Position, Role, Header, Terminal, Body, Empty, Leaf_then, If_then, While_then, Repeat_then, Procedure}
+use Rattle.masm_parse.proofs.Words.{append, OpenStatement, In_if, In_else, In_while, In_repeat, Configuration, Top, Inside, Behind, procedure, reduce, closed}
+use Rattle.masm_parse.proofs.Words.{shift, may_begin, constants}
 use Rattle.masm_tree.specs.declared.terminal.Role.TheVariants as roles
-use Rattle.masm_tree.specs.declared.terminal.Header.{Header}
-use Rattle.masm_tree.specs.declared.terminal.Terminal.{Terminal}
 use Rattle.masm_tree.specs.declared.terminal.Terminal.TheVariants as terminals
-use Rattle.masm_tree.specs.Trees.{Body, Empty, Leaf_then, If_then, While_then, Repeat_then, Procedure, append}
-use Rattle.masm_parse.specs.Machine.{OpenStatement, In_if, In_else, In_while, In_repeat, Configuration, Top, Inside, Behind, procedure, reduce, closed, shift}
-use Rattle.masm_tree.specs.Terminals.{may_begin, constants}
 use Rattle.masm_parse.specs.Grammar.{Spells, nothing, leaf, if_only, if_else, while, repeated, is_item, SpellsProcs, constant, item, SpellsMain, SpellsParts, IsSource}
 use Rattle.masm_parse.specs.Refusals.{FitsAfter}
 use Rattle.masm_parse.proofs.Complete.{spells_append}

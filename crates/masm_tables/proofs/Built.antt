@@ -1,11 +1,8 @@
 -- Exports, as they are built one behind the other.
-use Rattle.std.proofs.Common.{◌≡◌, ℕ, ◌+◌, ◌<◌, true, false, List, [], ◌∷◌, ◌++◌, length, Vec, Global, sym, ap, subst, ◌∙◌, take, get_or, arith}
-use Rattle.std.proofs.lemmas.List.{take_more, length-take-le}
-use Rattle.masm_tree.specs.declared.tree.Proc.{Proc}
-use Rattle.masm_flat.specs.declared.outside.KernelProc.{KernelProc}
+use Rattle.masm_tables.proofs.Words.{◌≡◌, ℕ, ◌+◌, ◌<◌, true, false, List, [], ◌∷◌, ◌++◌, length, Vec, Global, sym, ap, subst, ◌∙◌, take, get_or, arith}
+use Rattle.masm_tables.proofs.Words.{take_more, length-take-le, Proc, KernelProc, IsBuilt, AreBuilt, exported, inner}
 use Rattle.masm_flat.specs.declared.piece.Piece as piece
 use Rattle.masm_size.specs.declared.shape.Size as shape
-use Rattle.masm_tables.specs.Building.{IsBuilt, AreBuilt, exported, inner}
 
 -- one more procedure, exported or not
 module _ (sizes : List shape.Size) (lists : List (Vec piece.Piece Global)) (procs : List Proc) (i : ℕ) (p : Proc) (below : i < length procs)

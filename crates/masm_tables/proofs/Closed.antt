@@ -1,21 +1,12 @@
 -- The uses of a source of which none leads nowhere or back.
-use Rattle.std.proofs.Common.{◌≡◌, ℕ, ◌<◌, true, false, List, [], length, get_or, take, map, slice_get, Option, Some, None, refl, sym, subst, arith}
+use Rattle.masm_tables.proofs.Words.{◌≡◌, ℕ, ◌<◌, true, false, List, [], length, get_or, take, map, slice_get, Option, Some, None, refl, sym, subst, arith}
+use Rattle.masm_tables.proofs.Words.{length-map, flat_map, Contains, option_to_list, Body, Procedure, Source, IsClosed, unknown, not_in_kernel, IsUseOrder}
+use Rattle.masm_tables.proofs.Words.{Use, Own, Kernel, uses_of, all_uses, first_place, in_all, place_within, UsesOnly, SyscallsOnly, uses_only, syscalls_only}
+use Rattle.masm_tables.proofs.Words.{Block, Exported, first_export, names_of}
 use Rattle.std.proofs.lemmas.Grind.{flat_map-append}
-use Rattle.std.proofs.lemmas.List.{length-map}
 use Rattle.std.proofs.lemmas.List.Elements.{Contains-append_left, Contains-append_right}
-use Rattle.std.specs.List.{flat_map, Contains}
-use Rattle.std.specs.Option.{option_to_list}
-use Rattle.masm_tree.specs.Trees.{Body, Procedure, Source}
 use Rattle.masm_names.specs.declared.refusal.LinkCause.TheVariants as causes
-use Rattle.masm_names.specs.Naming.{IsClosed, unknown, not_in_kernel}
 use Rattle.masm_uses.specs.Plans.{NeedsIn, IsWanted, of_main, IsReferred, by_main}
-use Rattle.masm_uses.specs.UseOrders.{IsUseOrder}
-use Rattle.masm_names.specs.Uses.{Use, Own, Kernel, uses_of, all_uses, first_place}
-use Rattle.masm_uses.proofs.UsedLemmas.{in_all, place_within}
-use Rattle.masm_names.proofs.UsesOnly.{UsesOnly, SyscallsOnly, uses_only, syscalls_only}
-use Rattle.masm_flat.specs.Blocks.{Block}
-use Rattle.masm_flat.specs.Lists.{Exported, first_export}
-use Rattle.masm_tables.specs.Kernels.{names_of}
 use Rattle.masm_tables.proofs.Finding.{export_none}
 
 abbrev uses_in : Procedure → List Use

@@ -1,30 +1,18 @@
 -- The blocks that a dynexec may run, by the places of their procedures.
-use Rattle.std.proofs.Common.{◌≡◌, ℕ, ◌<◌, Bool, true, List, [], ◌∷◌, length, map, Some, Vec, Global, inl, inr, refl, sym, ap, ap₂, subst, ◌∙◌, arith}
-use Rattle.std.proofs.lemmas.List.{length-map}
+use Rattle.masm_tables.proofs.Words.{◌≡◌, ℕ, ◌<◌, Bool, true, List, [], ◌∷◌, length, map, Some, Vec, Global, inl, inr, refl, sym, ap, ap₂, subst, ◌∙◌, arith}
+use Rattle.masm_tables.proofs.Words.{length-map, same_Some, All, AllByRecursion, AllZip, Contains, filter, Procedure, Source, IsClosed, Use, uses_of}
+use Rattle.masm_tables.proofs.Words.{all_uses, bodies_of, each_once, target_names, first_place, IsTarget, cons_cases, cons_here, refs_are_own, all_in}
+use Rattle.masm_tables.proofs.Words.{place_within, Extent, Block, as_tree, whole, dispatch_of, list_at, Outside, ListOf, own, ListsOf, no_list, list_before}
+use Rattle.masm_tables.proofs.Words.{with_locals, seen-targets, dispatch_extent, size_at, as_extent, extent_of, size_of, AreSizes, IsListAt, IsDispatch}
 use Rattle.std.proofs.lemmas.List.Elements.{All-contains, All-contains_itself, All-filter, All-from_recursion, Contains-append_right, filter_passes}
-use Rattle.std.proofs.lemmas.Option.{same_Some}
-use Rattle.std.specs.List.{All, AllByRecursion, AllZip, Contains, filter}
 use Rattle.block_tree.specs.Trees as trees
-use Rattle.masm_tree.specs.Trees.{Procedure, Source}
-use Rattle.masm_names.specs.Naming.{IsClosed}
-use Rattle.masm_names.specs.Uses.{Use, uses_of, all_uses, bodies_of, each_once, target_names, first_place, IsTarget}
-use Rattle.masm_names.proofs.DoubleLemmas.{cons_cases, cons_here}
-use Rattle.masm_names.proofs.UsesOnly.{refs_are_own}
-use Rattle.masm_uses.proofs.UsedLemmas.{all_in, place_within}
-use Rattle.masm_flat.specs.declared.extent.Extent.{Extent}
 use Rattle.masm_flat.specs.declared.piece.Piece as piece
-use Rattle.masm_flat.specs.Blocks.{Block, Dyn, Piece, block_of, blocks_from, seen_as, seen_pieces, as_tree, whole}
-use Rattle.masm_flat.specs.KnownLists.{dispatch_of, list_at}
-use Rattle.masm_flat.specs.Lists.{Outside, ListOf, own, ListsOf, no_list, list_before, with_locals}
+use Rattle.masm_flat.specs.Blocks.{Dyn, Piece, block_of, blocks_from, seen_as, seen_pieces}
 use Rattle.masm_flat.proofs.Flattened.{seen-block}
-use Rattle.masm_flat.proofs.Targets.{seen-targets}
 use Rattle.masm_size.specs.declared.shape.Size as shape
-use Rattle.masm_size.specs.KnownSizes.{dispatch_extent, size_at}
-use Rattle.masm_size.specs.Sizes.{as_extent, extent_of, size_of}
 use Rattle.masm_size.proofs.Dispatches.{agree-dyn}
 use Rattle.masm_size.proofs.SizeLaws.{Agree, extent-whole}
 use Rattle.masm_size.proofs.Sized.{HasOperations, list-solid, solid-locals}
-use Rattle.masm_tables.specs.Tables.{AreSizes, IsListAt, IsDispatch}
 use Rattle.masm_tables.proofs.Closed.{own_leads}
 use Rattle.masm_tables.proofs.Finding.{procedure_found}
 

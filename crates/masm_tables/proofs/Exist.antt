@@ -1,18 +1,9 @@
 -- Each procedure of a source of which no use leads nowhere or back has a list.
-use Rattle.std.proofs.Common.{◌≡◌, ℕ, zero, suc, ◌<◌, ◌≤◌, List, length, get_or, take, slice_get, Some, sym, ap, ◌∙◌, arith}
-use Rattle.std.proofs.lemmas.List.{length-take-le, get_or-take, get_or_default}
-use Rattle.std.proofs.lemmas.Option.{slice_get_within}
-use Rattle.std.specs.List.{Contains}
-use Rattle.masm_tree.specs.Trees.{Procedure, Source}
-use Rattle.masm_names.specs.Naming.{IsClosed}
-use Rattle.masm_names.specs.Uses.{first_place, target_names}
-use Rattle.masm_uses.specs.UseOrders.{IsUseOrder}
-use Rattle.masm_flat.specs.Blocks.{Block, Piece}
-use Rattle.masm_flat.specs.Lists.{Outside, ListOf, own, ListsOf, IsList, with_locals}
-use Rattle.masm_flat.proofs.DynamicBodies.{dynexecs_only}
+use Rattle.masm_tables.proofs.Words.{◌≡◌, ℕ, zero, suc, ◌<◌, ◌≤◌, List, length, get_or, take, slice_get, Some, sym, ap, ◌∙◌, arith, length-take-le}
+use Rattle.masm_tables.proofs.Words.{get_or-take, get_or_default, slice_get_within, Contains, Procedure, Source, IsClosed, first_place, target_names}
+use Rattle.masm_tables.proofs.Words.{IsUseOrder, Block, Outside, ListOf, own, ListsOf, IsList, with_locals, dynexecs_only, lists_of_all, names_of}
+use Rattle.masm_flat.specs.Blocks.{Piece}
 use Rattle.masm_flat.proofs.HasList.{has_list}
-use Rattle.masm_flat.proofs.Targets.{lists_of_all}
-use Rattle.masm_tables.specs.Kernels.{names_of}
 use Rattle.masm_tables.proofs.Closed.{Behind, IsExportName, uses_behind, uses_main, syscalls_procs, syscalls_main}
 use Rattle.masm_tables.proofs.Dispatches.{target_leads}
 use Rattle.masm_tables.proofs.Finding.{procedure_found}

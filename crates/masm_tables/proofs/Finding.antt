@@ -1,19 +1,9 @@
 -- Procedures and exports by their names.
-use Rattle.std.proofs.Common.{◌≡◌, ℕ, suc, ◌+◌, ◌≤◌, cond, List, [], ◌∷◌, Option, Some, None, inl, inr, refl, sym, ap, ap₂, subst, ◌∙◌, bytes_eq, slice_get, arith}
-use Rattle.std.proofs.lemmas.Bool.{cases_Bool}
-use Rattle.std.proofs.lemmas.Option.{same_Some}
+use Rattle.masm_tables.proofs.Words.{◌≡◌, ℕ, suc, ◌+◌, ◌≤◌, cond, List, [], ◌∷◌, Option, Some, None, inl, inr, refl, sym, ap, ap₂, subst, ◌∙◌, bytes_eq}
+use Rattle.masm_tables.proofs.Words.{slice_get, arith, cases_Bool, same_Some, find, Contains, option_map, tree_of, KernelProc, Block, as_tree, Exported}
+use Rattle.masm_tables.proofs.Words.{first_procedure, first_export, as_extent, Procedure, first_place, cons_cases, AreExports, names_in, names_of}
 use Rattle.std.proofs.lemmas.Slice.Eq.{bytes_eq-Decides}
-use Rattle.std.specs.List.{find, Contains}
-use Rattle.std.specs.Option.{option_map}
-use Rattle.block_tree.specs.TreeView.{tree_of}
-use Rattle.masm_flat.specs.declared.outside.KernelProc.{KernelProc}
-use Rattle.masm_flat.specs.Blocks.{Block, seen_as, as_tree, as_operations}
-use Rattle.masm_flat.specs.Lists.{Exported, first_procedure, first_export}
-use Rattle.masm_size.specs.Sizes.{as_extent}
-use Rattle.masm_tree.specs.Trees.{Procedure}
-use Rattle.masm_names.specs.Uses.{first_place}
-use Rattle.masm_names.proofs.DoubleLemmas.{cons_cases}
-use Rattle.masm_tables.specs.Kernels.{AreExports, names_in, names_of}
+use Rattle.masm_flat.specs.Blocks.{seen_as, as_operations}
 
 -- a name has its first place where its first procedure stands
 pub procedure_found : (procs : List Procedure) (name : List ℕ) (j : ℕ) → first_place procs name ≡ Some j

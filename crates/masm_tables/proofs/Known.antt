@@ -1,51 +1,26 @@
 -- Tables of sizes and lists, as they are filled.
-use Rattle.std.proofs.Common.{◌≡◌, ◌≢◌, ℕ, zero, suc, ◌+◌, ◌<◌, Bool, true, false, List, [], ◌∷◌, length, get_or, set, take, slice_get, Option, Some, ◌⊎◌, inl, inr, refl, sym, ap, subst, ◌∙◌, unwrap_or, Vec, Global, arith}
-use Rattle.std.proofs.lemmas.Bool.Decides.{eqb_tells}
-use Rattle.std.proofs.lemmas.List.{take_more, length-map}
+use Rattle.masm_tables.proofs.Words.{◌≡◌, ◌≢◌, ℕ, zero, suc, ◌+◌, ◌<◌, Bool, true, false, List, [], ◌∷◌, length, get_or, set, take, slice_get, Option, Some}
+use Rattle.masm_tables.proofs.Words.{◌⊎◌, inl, inr, refl, sym, ap, subst, ◌∙◌, unwrap_or, Vec, Global, arith, eqb_tells, take_more, length-map, same_Some}
+use Rattle.masm_tables.proofs.Words.{slice_get_read, Contains, AllByRecursion, option_map, tree_of, tree_digest, Position, Proc, Procedure, Source}
+use Rattle.masm_tables.proofs.Words.{procedure_of, source_of, mapped, Names, place_at, IsClosed, IsUseOrder, dynexecs_of, first_place, KernelProc, Block}
+use Rattle.masm_tables.proofs.Words.{as_tree, whole, flat_with, Extent, list_at, digest_at, dispatch_in, lists_known, size_at, sizes_known, Outside, ListOf}
+use Rattle.masm_tables.proofs.Words.{own, IsList, with_locals, block_digest, as_extent, size_of, extent, nothing, size_view, procedure_size, pieces_of}
+use Rattle.masm_tables.proofs.Words.{dynexecs_only, got_other, UsesOnly, AreExports, AreKnown, AreSizes, IsListAt, IsDigestAt, IsDispatch, Puts}
 use Rattle.std.proofs.lemmas.List.Elements.{Contains-push_cases}
-use Rattle.std.proofs.lemmas.Option.{same_Some, slice_get_read}
-use Rattle.std.specs.List.{Contains, AllByRecursion}
-use Rattle.std.specs.Option.{option_map}
 use Rattle.block_tree.specs.declared.tree.Tree as code
 use Rattle.block_tree.specs.Trees as trees
-use Rattle.block_tree.specs.TreeView.{tree_of}
 use Rattle.vm_field.specs.Limits.{number_of_constants}
 use Rattle.vm_field.specs.Machine.{zero_word}
-use Rattle.block_tree.specs.Trees.{tree_digest}
 use Rattle.masm_tree.specs.declared.tree.Ast.{Ast}
-use Rattle.masm_tree.specs.declared.tree.Position.{Position}
-use Rattle.masm_tree.specs.declared.tree.Proc.{Proc}
-use Rattle.masm_tree.specs.Trees.{Procedure, Source}
-use Rattle.masm_tree.specs.Views.{procedure_of, source_of}
 use Rattle.masm_expand.specs.Expansion.{lit}
 use Rattle.vm_ops.specs.declared.op.Op.TheVariants.{FmpUpdate}
 use Rattle.vm_ops.specs.Items.{plain_item}
-use Rattle.masm_uses.proofs.UsedLemmas.{mapped}
-use Rattle.masm_names.specs.declared.names.Names.{Names}
-use Rattle.masm_names.specs.Names.{place_at}
-use Rattle.masm_names.specs.Naming.{IsClosed}
 use Rattle.masm_uses.specs.Plans.{NeedsIn}
-use Rattle.masm_uses.specs.UseOrders.{IsUseOrder}
-use Rattle.masm_names.specs.Uses.{dynexecs_of, first_place}
-use Rattle.masm_flat.specs.declared.outside.KernelProc.{KernelProc}
 use Rattle.masm_flat.specs.declared.piece.Piece as piece
 use Rattle.masm_size.specs.declared.shape.Size as shape
-use Rattle.masm_flat.specs.Blocks.{Block, Piece, Operation, block_of, seen_as, seen_pieces, as_tree, whole}
-use Rattle.masm_flat.specs.Flattening.{flat_with}
-use Rattle.masm_flat.specs.declared.extent.Extent.{Extent}
-use Rattle.masm_flat.specs.KnownLists.{list_at, digest_at, dispatch_in, lists_known}
-use Rattle.masm_size.specs.KnownSizes.{size_at, sizes_known}
-use Rattle.masm_flat.specs.Lists.{Outside, ListOf, own, IsList, with_locals, block_digest}
-use Rattle.masm_size.specs.Sizes.{as_extent, size_of, extent, nothing, size_view, procedure_size}
-use Rattle.masm_flat.specs.Views.{pieces_of}
-use Rattle.masm_flat.proofs.DynamicBodies.{dynexecs_only}
+use Rattle.masm_flat.specs.Blocks.{Piece, Operation, block_of, seen_as, seen_pieces}
 use Rattle.masm_flat.proofs.Flattened.{Fits, flat-is, seen-append, seen-block}
-use Rattle.masm_flat.proofs.Served.{got_other}
 use Rattle.masm_size.proofs.Sized.{SizesFit, HasOperations, procedure-sized}
-use Rattle.masm_names.proofs.UsesOnly.{UsesOnly}
-use Rattle.masm_tables.specs.Kernels.{AreExports}
-use Rattle.masm_tables.specs.Tables.{AreKnown, AreSizes, IsListAt, IsDigestAt, IsDispatch}
-use Rattle.masm_tables.specs.Putting.{Puts}
 use Rattle.masm_tables.proofs.Dispatches.{IsDispatchExtent}
 use Rattle.masm_tables.proofs.Got.{got_same}
 use Rattle.masm_tables.proofs.Put.{put_cases}

@@ -10,3 +10,4 @@ pub mod Prepared
 pub mod Put
 pub mod Steps
 pub mod Taken
+pub mod Words

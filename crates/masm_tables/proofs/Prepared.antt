@@ -1,10 +1,6 @@
 -- What is made once, for the first body that has a dynexec.
-use Rattle.std.proofs.Common.{◌≡◌, [], Option, Some, None, MatchOption, is_some, slice_get, refl, subst, true, false, List, ◌∷◌, arith}
-use Rattle.std.specs.List.{Contains}
-use Rattle.masm_tree.specs.declared.tree.Position.{Position}
-use Rattle.masm_tree.specs.Trees.{Body}
-use Rattle.masm_names.specs.Uses.{dynexecs_of}
-use Rattle.masm_tables.specs.Preparing.{Prepares, had, unasked, made}
+use Rattle.masm_tables.proofs.Words.{◌≡◌, [], Option, Some, None, MatchOption, is_some, slice_get, refl, subst, true, false, List, ◌∷◌, arith, Contains}
+use Rattle.masm_tables.proofs.Words.{Position, Body, dynexecs_of, Prepares, had, unasked, made}
 
 some_first : (xs : List Position) → is_some (slice_get xs 0) ≡ true → (at : Position) × Contains xs at
 some_first [] some = cc

@@ -1,11 +1,7 @@
 -- What is put at a place of a list.
-use Rattle.std.proofs.Common.{◌≡◌, ℕ, ◌<◌, Bool, true, false, List, length, set, slice_get, ◌⊎◌, inl, inr, refl, sym, ap, ◌∙◌}
-use Rattle.std.proofs.lemmas.Bool.{false≢true}
-use Rattle.std.proofs.lemmas.Bool.Decides.{eqb_tells}
-use Rattle.std.proofs.lemmas.List.{length-set}
-use Rattle.masm_flat.proofs.Served.{got_other}
+use Rattle.masm_tables.proofs.Words.{◌≡◌, ℕ, ◌<◌, Bool, true, false, List, length, set, slice_get, ◌⊎◌, inl, inr, refl, sym, ap, ◌∙◌, false≢true, eqb_tells}
+use Rattle.masm_tables.proofs.Words.{length-set, got_other, Puts}
 use Rattle.masm_tables.proofs.Got.{got_same}
-use Rattle.masm_tables.specs.Putting.{Puts}
 
 module _ {X : Type 0} (wanted : Bool) (place : ℕ) (Is : X → Type 0) (Stays : ℕ → Type 0) (old new : List X) where
   -- a place is as it was, or it is the one where something is put

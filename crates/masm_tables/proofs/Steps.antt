@@ -1,14 +1,10 @@
 -- The steps of a plan, one behind the other.
-use Rattle.std.proofs.Common.{◌≡◌, ℕ, ◌+◌, ◌<◌, ◌≤◌, Bool, true, List, [], ◌∷◌, ◌++◌, length, take, get_or, Vec, Global, refl, sym, ap, subst, ◌∙◌}
-use Rattle.std.specs.Prelude.{reverse}
-use Rattle.std.proofs.lemmas.List.{take_more, take_all, reverse-append}
-use Rattle.masm_tree.specs.Trees.{Source}
+use Rattle.masm_tables.proofs.Words.{◌≡◌, ℕ, ◌+◌, ◌<◌, ◌≤◌, Bool, true, List, [], ◌∷◌, ◌++◌, length, take, get_or, Vec, Global, refl, sym, ap, subst, ◌∙◌}
+use Rattle.masm_tables.proofs.Words.{reverse, take_more, take_all, reverse-append, Source, Outside, IsListAt, IsDigestAt}
 use Rattle.masm_uses.specs.declared.planning.Step.{Step}
 use Rattle.masm_uses.specs.Plans.{HeldBehind, Builds, IsPlan, IsWanted, IsReferred, ListNeeds, NeedsIn, keeps_list, ended_lists, makes_digest, no_ends}
 use Rattle.masm_uses.proofs.PlanLemmas.{builds-more}
 use Rattle.masm_flat.specs.declared.piece.Piece as piece
-use Rattle.masm_flat.specs.Lists.{Outside}
-use Rattle.masm_tables.specs.Tables.{IsListAt, IsDigestAt}
 
 -- the places of steps, which are those of procedures
 abbrev pub ArePlaces : ℕ → List Step → Type 0

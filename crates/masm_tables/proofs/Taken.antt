@@ -1,21 +1,10 @@
 -- Tables of lists before and behind a body that takes some of them.
-use Rattle.std.proofs.Common.{◌≡◌, ℕ, ◌<◌, List, [], ◌∷◌, ◌++◌, length, inl, inr, refl, sym, ap, subst, ◌∙◌, append-nil}
-use Rattle.std.proofs.lemmas.Bool.{cases_lt}
-use Rattle.std.proofs.lemmas.Bool.Decides.{eqb_tells}
-use Rattle.std.proofs.lemmas.List.{get_or_past}
+use Rattle.masm_tables.proofs.Words.{◌≡◌, ℕ, ◌<◌, List, [], ◌∷◌, ◌++◌, length, inl, inr, refl, sym, ap, subst, ◌∙◌, append-nil, cases_lt, eqb_tells}
+use Rattle.masm_tables.proofs.Words.{get_or_past, Contains, Table, Known, Tree, lists_known, left_at, HasNoneLeft, Serves, place_at, places_used, times_among}
+use Rattle.masm_tables.proofs.Words.{Use, cons_here}
 use Rattle.std.proofs.lemmas.List.Elements.{Contains-append_right}
-use Rattle.std.specs.List.{Contains}
 use Rattle.masm_flat.specs.declared.known.Scope.{Scope}
-use Rattle.masm_flat.specs.declared.table.Table.{Table}
-use Rattle.masm_flat.specs.Flattening.{Known}
-use Rattle.block_tree.specs.Trees.{Tree}
-use Rattle.masm_flat.specs.KnownLists.{lists_known}
-use Rattle.masm_flat.specs.Taking.{left_at, HasNoneLeft, Serves}
-use Rattle.masm_names.specs.Names.{place_at}
-use Rattle.masm_names.specs.UsedPlaces.{places_used, times_among}
-use Rattle.masm_names.specs.Uses.{Use}
 use Rattle.masm_uses.specs.Plans.{IsNoneOrAll}
-use Rattle.masm_names.proofs.DoubleLemmas.{cons_here}
 use Rattle.masm_names.proofs.TimesAmong.{times_no}
 
 pub times_none : (places : List ℕ) (q : ℕ) → ¬ (Contains places q) → times_among places q ≡ 0

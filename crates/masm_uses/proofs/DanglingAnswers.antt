@@ -1,28 +1,12 @@
 -- The least refusal among the uses of a source.
-use Rattle.std.proofs.Common.{◌≡◌, ℕ, List, [], map, slice_get, Option, Some, None, inl, inr, refl, sym, ap, subst, ◌∙◌, append-nil, arith}
-use Rattle.std.proofs.lemmas.Grind.{flat_map-append}
-use Rattle.std.proofs.lemmas.List.Elements.{Contains-append_left, Contains-append_right, Contains-append_cases}
-use Rattle.std.specs.List.{flat_map, Contains}
-use Rattle.std.specs.Option.{option_map, option_to_list}
-use Rattle.masm_reading.specs.declared.constant.Const.{Const}
-use Rattle.masm_tree.specs.declared.tree.Position.{Position}
-use Rattle.masm_tree.specs.declared.tree.Proc.{Proc}
-use Rattle.masm_tree.specs.Trees.{Source}
-use Rattle.masm_tree.specs.Views.{procedure_of}
-use Rattle.masm_names.specs.declared.refusal.LinkCause.{LinkCause}
+use Rattle.masm_uses.proofs.Words.{◌≡◌, ℕ, List, [], map, slice_get, Option, Some, None, inl, inr, refl, sym, ap, subst, ◌∙◌, append-nil, arith}
+use Rattle.masm_uses.proofs.Words.{flat_map-append, Contains-append_left, Contains-append_right, Contains-append_cases, flat_map, Contains, option_map}
+use Rattle.masm_uses.proofs.Words.{option_to_list, Const, Position, Proc, Source, procedure_of, LinkCause, Refusal, Among, LeadsNowhere, Missing, Recursions}
+use Rattle.masm_uses.proofs.Words.{Dynexecs, FindsLeast, LeadsFrom, dynexecs_in, link_of, links_in, main_links_in, own_places, places_referred, Dangles}
+use Rattle.masm_uses.proofs.Words.{unknown, not_in_kernel, recursive, dynamic, AreUsers, Use, dynexecs_of, all_uses, place_in, first_place, Either}
+use Rattle.masm_uses.proofs.Words.{FindsLeast-same, FindsLeast-earlier}
 use Rattle.masm_names.specs.declared.refusal.LinkCause.TheVariants as causes
-use Rattle.masm_names.specs.declared.refusal.Refusal.{Refusal}
-use Rattle.masm_names.specs.Among.{Among}
-use Rattle.masm_uses.specs.Dangling.{LeadsNowhere, Missing, Recursions, Dynexecs}
 use Rattle.masm_names.specs.Earlier.{earlier}
-use Rattle.masm_names.specs.Least.{FindsLeast}
-use Rattle.graphs.specs.Graph.{LeadsFrom}
-use Rattle.masm_graph.specs.Dynexecs.{dynexecs_in}
-use Rattle.masm_graph.specs.Links.{link_of, links_in, main_links_in, own_places, places_referred}
-use Rattle.masm_names.specs.Naming.{Dangles, unknown, not_in_kernel, recursive, dynamic}
-use Rattle.masm_graph.specs.Users.{AreUsers}
-use Rattle.masm_names.specs.Uses.{Use, dynexecs_of, all_uses, place_in, first_place}
-use Rattle.masm_names.proofs.LeastLemmas.{Either, FindsLeast-same, FindsLeast-earlier}
 use Rattle.masm_uses.proofs.TargetLemmas.{uses_in, target_among, among_target}
 use Rattle.masm_uses.proofs.UseOrderLemmas as orders
 use Rattle.masm_uses.proofs.UsedLemmas.{contains_at, at_contains, in_all, all_in, unmapped, mapped, place_none, none_place, missing_by, missing_own, missing_kernel, used, used_by, leads_reaches, reaches_leads}

@@ -1,18 +1,9 @@
 -- Uses that lead back, with marks for the places that lead there and without.
-use Rattle.std.proofs.Common.{◌≡◌, ℕ, ◌<◌, false, not, ◌&&◌, List, length, get_or, Option, Some, None, inl, inr, ◌↔◌, refl, sym, ap, subst, ◌∙◌}
-use Rattle.std.proofs.lemmas.Bool.{cases_Bool, false≢true}
-use Rattle.std.proofs.lemmas.List.Folds.{list_any-from_Any}
+use Rattle.masm_uses.proofs.Words.{◌≡◌, ℕ, ◌<◌, false, not, ◌&&◌, List, length, get_or, Option, Some, None, inl, inr, ◌↔◌, refl, sym, ap, subst, ◌∙◌}
+use Rattle.masm_uses.proofs.Words.{cases_Bool, false≢true, list_any-from_Any, list_any, Position, Link, LinkCause, Refusal, Returns, is_own, comes_first}
+use Rattle.masm_uses.proofs.Words.{waits, FindsLeast, HasOwn, IsNoLater, is_no_later-tells, FindsLeast-same}
 use Rattle.std.proofs.lemmas.Option.{slice_get_within, get_or_from_slice_get}
-use Rattle.std.specs.List.{list_any}
-use Rattle.masm_tree.specs.declared.tree.Position.{Position}
-use Rattle.masm_graph.specs.declared.links.Link.{Link}
-use Rattle.masm_names.specs.declared.refusal.LinkCause.{LinkCause}
 use Rattle.masm_names.specs.declared.refusal.LinkCause.TheVariants as causes
-use Rattle.masm_names.specs.declared.refusal.Refusal.{Refusal}
-use Rattle.masm_uses.specs.Dangling.{Returns, is_own, comes_first, waits}
-use Rattle.masm_names.specs.Least.{FindsLeast}
-use Rattle.masm_graph.specs.Users.{HasOwn}
-use Rattle.masm_names.proofs.LeastLemmas.{IsNoLater, is_no_later-tells, FindsLeast-same}
 
 pub Returns-same : (Back Other : ℕ → Type 0) (row : List Link) (r : Option Refusal) → ((place : ℕ) → Back place ↔ Other place)
     → FindsLeast (Returns Back row) r → FindsLeast (Returns Other row) r

@@ -1,28 +1,12 @@
 -- Dynexecs and their targets: which of them are refused, and what an order does for the others.
-use Rattle.std.proofs.Common.{◌≡◌, ℕ, ◌<◌, ◌||◌, Bool, true, false, List, [], ◌∷◌, map, length, take, get_or, Option, Some, None, inl, inr, refl, sym, ap, subst, ◌∙◌, ◌↔◌, arith}
-use Rattle.std.proofs.lemmas.List.Elements.{All-nil, All-contains, Contains-append_left, Contains-append_cases, Contains-get_or}
-use Rattle.std.proofs.lemmas.List.Folds.{list_any-from_Any}
-use Rattle.std.specs.List.{All, Contains, list_any}
-use Rattle.std.specs.Option.{option_map, option_to_list}
-use Rattle.masm_reading.specs.declared.constant.Const.{Const}
-use Rattle.masm_tree.specs.declared.tree.Position.{Position}
-use Rattle.masm_tree.specs.declared.tree.Proc.{Proc}
-use Rattle.masm_tree.specs.Trees.{Procedure, Source}
-use Rattle.masm_tree.specs.Views.{procedure_of}
+use Rattle.masm_uses.proofs.Words.{◌≡◌, ℕ, ◌<◌, ◌||◌, Bool, true, false, List, [], ◌∷◌, map, length, take, get_or, Option, Some, None, inl, inr, refl, sym}
+use Rattle.masm_uses.proofs.Words.{ap, subst, ◌∙◌, ◌↔◌, arith, All-nil, All-contains, Contains-append_left, Contains-append_cases, Contains-get_or}
+use Rattle.masm_uses.proofs.Words.{list_any-from_Any, All, Contains, list_any, option_map, option_to_list, Const, Position, Proc, Procedure, Source}
+use Rattle.masm_uses.proofs.Words.{procedure_of, Refusal, FindsLeast, IsClosed, dynamic, dynexecs_of, first_place, IsTarget, HasDynexec, IsDynamic}
+use Rattle.masm_uses.proofs.Words.{FindsLeast-same, LeadsFrom, each_once, contains_one, dynexecs_in, main_dynexecs_in, has_one, has_dynexec, links_in}
+use Rattle.masm_uses.proofs.Words.{main_links_in, own_places, places_referred, Dynexecs, held}
 use Rattle.masm_names.specs.declared.refusal.LinkCause.TheVariants as causes
-use Rattle.masm_names.specs.declared.refusal.Refusal.{Refusal}
-use Rattle.masm_names.specs.Least.{FindsLeast}
-use Rattle.masm_names.specs.Naming.{IsClosed, dynamic}
-use Rattle.masm_names.specs.Uses.{dynexecs_of, first_place, IsTarget, HasDynexec, IsDynamic}
-use Rattle.masm_names.proofs.LeastLemmas.{FindsLeast-same}
-use Rattle.graphs.specs.Graph.{LeadsFrom}
-use Rattle.graphs.specs.Orders.{each_once}
 use Rattle.graphs.proofs.Filters.{once_has, once_from}
-use Rattle.graphs.proofs.WalkLemmas.{contains_one}
-use Rattle.masm_graph.specs.Dynexecs.{dynexecs_in, main_dynexecs_in, has_one, has_dynexec}
-use Rattle.masm_graph.specs.Links.{links_in, main_links_in, own_places, places_referred}
-use Rattle.masm_uses.specs.Dangling.{Dynexecs}
-use Rattle.masm_uses.specs.Plans.{held}
 use Rattle.masm_uses.proofs.TargetLemmas.{target_among, among_target, referred_within}
 use Rattle.masm_uses.proofs.UsedLemmas.{at_contains, contains_at, mapped, unmapped}
 use Rattle.masm_uses.proofs.UseOrderLemmas.{leads_reaches}

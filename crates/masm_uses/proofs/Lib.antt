@@ -6,3 +6,4 @@ pub mod PlanSources
 pub mod TargetLemmas
 pub mod UseOrderLemmas
 pub mod UsedLemmas
+pub mod Words

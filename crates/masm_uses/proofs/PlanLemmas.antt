@@ -1,17 +1,11 @@
 -- Plans: rows that are marked, and steps one before the other.
-use Rattle.std.proofs.Common.{◌≡◌, ℕ, ◌+◌, ◌<◌, ◌≤◌, Bool, true, false, not, List, [], ◌∷◌, length, take, get_or, set, ◌⊎◌, inl, inr, refl, sym, ap, subst, ◌∙◌, arith}
-use Rattle.std.specs.Prelude.{reverse, filter}
-use Rattle.std.proofs.lemmas.Bool.{false≢true, cases_lt, cases_Bool}
-use Rattle.std.proofs.lemmas.Bool.Decides.{eqb_tells}
+use Rattle.masm_uses.proofs.Words.{◌≡◌, ℕ, ◌+◌, ◌<◌, ◌≤◌, Bool, true, false, not, List, [], ◌∷◌, length, take, get_or, set, ◌⊎◌, inl, inr, refl, sym, ap}
+use Rattle.masm_uses.proofs.Words.{subst, ◌∙◌, arith, reverse, filter, false≢true, cases_lt, cases_Bool, eqb_tells, Contains-push_cases, filter_passes}
+use Rattle.masm_uses.proofs.Words.{Contains, Edge, IsOrder, Builds, IsHeldFor, MarksRow, StepsTo, passed, built, IsNoneOrAll, EndsInGraph, Step}
+use Rattle.masm_uses.proofs.Words.{contains_none}
 use Rattle.std.proofs.lemmas.List.{take_more, take_all, get_or-set_same, get_or-set_other, get_or_past, length-set, reverse-append}
-use Rattle.std.proofs.lemmas.List.Elements.{Contains-push_cases, filter_passes}
-use Rattle.std.specs.List.{Contains}
-use Rattle.graphs.specs.Graph.{Edge}
-use Rattle.graphs.specs.Orders.{IsOrder}
-use Rattle.masm_uses.specs.Plans.{HeldBehind, Builds, IsHeldFor, MarksRow, StepsTo, passed, built, IsNoneOrAll, EndsInGraph}
+use Rattle.masm_uses.specs.Plans.{HeldBehind}
 use Rattle.masm_names.proofs.TimesAmong.{times_kept, times_dropped}
-use Rattle.masm_uses.specs.declared.planning.Step.{Step}
-use Rattle.graphs.proofs.SortLemmas.{contains_none}
 
 -- rows
 

@@ -1,26 +1,15 @@
 -- A plan of a graph of uses is one of the source.
-use Rattle.std.proofs.Common.{◌≡◌, ℕ, ◌<◌, Bool, true, false, List, [], ◌∷◌, map, length, get_or, slice_get, Option, Some, None, ◌⊎◌, inl, inr, refl, sym, ap, ap₂, subst, ◌∙◌, arith}
-use Rattle.std.specs.Prelude.{reverse}
-use Rattle.std.proofs.lemmas.List.{length-map}
-use Rattle.std.proofs.lemmas.List.Elements.{Contains-get_or}
+use Rattle.masm_uses.proofs.Words.{◌≡◌, ℕ, ◌<◌, Bool, true, false, List, [], ◌∷◌, map, length, get_or, slice_get, Option, Some, None, ◌⊎◌, inl, inr, refl}
+use Rattle.masm_uses.proofs.Words.{sym, ap, ap₂, subst, ◌∙◌, arith, reverse, length-map, Contains-get_or, All, Contains, cons_option, option_map, Const, Proc}
+use Rattle.masm_uses.proofs.Words.{Procedure, Source, procedure_of, body_of, Step, Edge, IsGraph, IsOrder, link_of, links_in, main_links_in, own_place}
+use Rattle.masm_uses.proofs.Words.{own_places, place_if, places_with, own_target, kernel_target, target_of, Builds, StandsBefore, keeps_list, ended_lists}
+use Rattle.masm_uses.proofs.Words.{makes_digest, no_ends, IsNoneOrAll, EndsInGraph, IsUseOrder, Use, Owner, Own, Kernel, uses_of, first_place, IsTarget}
+use Rattle.masm_uses.proofs.Words.{HasDynexec, IsDynamic, contains_none}
 use Rattle.std.proofs.lemmas.Option.{get_or_from_slice_get, slice_get-get_or}
-use Rattle.std.specs.List.{All, Contains, cons_option}
-use Rattle.std.specs.Option.{option_map}
-use Rattle.masm_reading.specs.declared.constant.Const.{Const}
-use Rattle.masm_tree.specs.declared.tree.Proc.{Proc}
-use Rattle.masm_tree.specs.Trees.{Procedure, Source}
-use Rattle.masm_tree.specs.Views.{procedure_of, body_of}
-use Rattle.masm_uses.specs.declared.planning.Step.{Step}
-use Rattle.graphs.specs.Graph.{Edge, IsGraph}
-use Rattle.graphs.specs.Orders.{IsOrder}
-use Rattle.masm_graph.specs.Links.{link_of, links_in, main_links_in, own_place, own_places, place_if, places_with, own_target, kernel_target, target_of}
-use Rattle.masm_uses.specs.Plans.{Builds, IsWanted, exported, of_main, of_dynexec, IsReferred, by_main, NeedsIn, ListNeeds, used, targeted, StandsBefore, keeps_list, ended_lists, makes_digest, no_ends, IsNoneOrAll, EndsInGraph, EndsInFull, main_uses}
-use Rattle.masm_uses.specs.UseOrders.{IsUseOrder}
-use Rattle.masm_names.specs.Uses.{Use, Owner, Own, Kernel, uses_of, first_place, IsTarget, HasDynexec, IsDynamic}
+use Rattle.masm_uses.specs.Plans.{IsWanted, exported, of_main, of_dynexec, IsReferred, by_main, NeedsIn, ListNeeds, used, targeted, EndsInFull, main_uses}
 use Rattle.masm_names.specs.UsedPlaces.{place_used, places_used}
 use Rattle.masm_uses.proofs.DispatchLemmas.{dynamic_by}
 use Rattle.masm_uses.proofs.PlanLemmas.{builds-more}
-use Rattle.graphs.proofs.SortLemmas.{contains_none}
 use Rattle.masm_uses.proofs.UsedLemmas.{contains_at, at_contains, mapped, unmapped, place_within, leads_by, leads_own, link_used}
 use Rattle.masm_uses.proofs.UseOrderLemmas.{counts, is-graph}
 use Rattle.masm_graph.proofs.OwnLemmas.{places_own, with_in_own, own_in_with, edge_with, goes_with}

@@ -1,26 +1,15 @@
 -- The procedures that procrefs name: by the source, and by the rows of its uses.
-use Rattle.std.proofs.Common.{◌≡◌, ℕ, suc, ◌+◌, ◌<◌, Bool, true, false, not, cond, List, [], ◌∷◌, ◌++◌, map, length, get_or, slice_get, Option, Some, None, inl, inr, refl, sym, ap, ap₂, subst, ◌∙◌, bytes_eq, unwrap_or, append-nil, arith}
-use Rattle.std.specs.Prelude.{filter, nat_eq}
-use Rattle.std.proofs.lemmas.Bool.{cases_Bool}
-use Rattle.std.proofs.lemmas.Bool.Decides.{eqb_tells}
-use Rattle.std.proofs.lemmas.Grind.{flat_map-append}
-use Rattle.std.proofs.lemmas.List.{map-append, length-map}
-use Rattle.std.proofs.lemmas.List.Elements.{Contains-append_left, Contains-append_right, Contains-append_cases, Contains-get_or, filter_map-append}
-use Rattle.std.proofs.lemmas.Slice.Eq.{bytes_eq-Decides}
-use Rattle.std.specs.List.{All, Contains, flat_map, cons_option}
-use Rattle.std.specs.Option.{option_map, option_to_list}
-use Rattle.masm_reading.specs.declared.constant.Const.{Const}
-use Rattle.masm_tree.specs.declared.tree.Proc.{Proc}
-use Rattle.masm_tree.specs.Trees.{Procedure, Source}
-use Rattle.masm_tree.specs.Views.{procedure_of, body_of}
+use Rattle.masm_uses.proofs.Words.{◌≡◌, ℕ, suc, ◌+◌, ◌<◌, Bool, true, false, not, cond, List, [], ◌∷◌, ◌++◌, map, length, get_or, slice_get, Option, Some}
+use Rattle.masm_uses.proofs.Words.{None, inl, inr, refl, sym, ap, ap₂, subst, ◌∙◌, bytes_eq, unwrap_or, append-nil, arith, filter, nat_eq, cases_Bool}
+use Rattle.masm_uses.proofs.Words.{eqb_tells, flat_map-append, length-map, Contains-append_left, Contains-append_right, Contains-append_cases}
+use Rattle.masm_uses.proofs.Words.{Contains-get_or, filter_map-append, bytes_eq-Decides, All, Contains, flat_map, cons_option, option_map, option_to_list}
+use Rattle.masm_uses.proofs.Words.{Const, Proc, Procedure, Source, procedure_of, body_of, unknown, IsClosed, Use, Own, uses_of, bodies_of, all_uses, place_in}
+use Rattle.masm_uses.proofs.Words.{first_place, target_names, IsTarget, cons_here, each_once, link_of, links_in, main_links_in, own_place, place_if}
+use Rattle.masm_uses.proofs.Words.{places_with, places_referred, target_of}
+use Rattle.std.proofs.lemmas.List.{map-append}
 use Rattle.masm_names.specs.declared.refusal.LinkCause.TheVariants as causes
-use Rattle.masm_names.specs.Naming.{unknown, IsClosed}
 use Rattle.masm_names.specs.Uses as names
-use Rattle.masm_names.specs.Uses.{Use, Own, uses_of, bodies_of, all_uses, place_in, first_place, target_names, IsTarget}
-use Rattle.masm_names.proofs.DoubleLemmas.{cons_here}
 use Rattle.masm_names.proofs.UsesOnly.{refs_are_own}
-use Rattle.graphs.specs.Orders.{each_once}
-use Rattle.masm_graph.specs.Links.{link_of, links_in, main_links_in, own_place, place_if, places_with, places_referred, target_of}
 use Rattle.masm_graph.proofs.OwnLemmas.{own_in_with, with_link}
 use Rattle.masm_uses.proofs.UsedLemmas.{contains_at, at_contains, in_all, all_in, mapped, unmapped, place_within, leads_by, leads_own}
 

@@ -1,18 +1,9 @@
 -- The graph of a source's procedures, and its orders.
-use Rattle.std.proofs.Common.{◌≡◌, ℕ, List, map, length, take, get_or, Option, sym, ap, subst, ◌∙◌, arith}
-use Rattle.std.specs.List.{Contains}
-use Rattle.std.proofs.lemmas.List.{length-map}
-use Rattle.masm_tree.specs.declared.tree.Proc.{Proc}
-use Rattle.masm_tree.specs.Trees.{Source}
-use Rattle.masm_tree.specs.Views.{procedure_of}
+use Rattle.masm_uses.proofs.Words.{◌≡◌, ℕ, List, map, length, take, get_or, Option, sym, ap, subst, ◌∙◌, arith, Contains, length-map, Proc, Source}
+use Rattle.masm_uses.proofs.Words.{procedure_of, IsGraph, Leads, itself, through, links_in, own_places, recursive, IsClosed, IsAcyclic, IsOrder, IsUseOrder}
+use Rattle.masm_uses.proofs.Words.{first_place, Reaches, IsTarget, HasDynexec}
 use Rattle.masm_names.specs.declared.refusal.LinkCause.TheVariants as causes
-use Rattle.graphs.specs.Graph.{IsGraph, Leads, itself, through}
-use Rattle.masm_graph.specs.Links.{links_in, own_places}
-use Rattle.masm_names.specs.Naming.{recursive, IsClosed}
-use Rattle.graphs.specs.Orders.{IsAcyclic, IsOrder}
-use Rattle.masm_uses.specs.UseOrders.{IsUseOrder}
 use Rattle.masm_names.specs.Uses as uses
-use Rattle.masm_names.specs.Uses.{first_place, Reaches, IsTarget, HasDynexec}
 use Rattle.masm_graph.proofs.OwnLemmas.{edge_goes, goes_edge}
 use Rattle.masm_uses.proofs.UsedLemmas.{goes_used, goes_within, used_goes}
 

@@ -1,27 +1,14 @@
 -- The rows of uses against the uses of a source.
-use Rattle.std.proofs.Common.{◌≡◌, ℕ, suc, zero, ◌+◌, ◌<◌, Bool, true, false, cond, List, [], ◌∷◌, map, length, get_or, slice_get, Option, Some, None, ◌⊎◌, inl, inr, refl, sym, ap, subst, ◌∙◌, bytes_eq, unwrap_or, arith}
-use Rattle.std.proofs.lemmas.Bool.{cases_Bool}
-use Rattle.std.proofs.lemmas.List.{length-map}
-use Rattle.std.proofs.lemmas.List.Elements.{Contains-append_left, Contains-append_right, Contains-append_cases, Contains-push}
+use Rattle.masm_uses.proofs.Words.{◌≡◌, ℕ, suc, zero, ◌+◌, ◌<◌, Bool, true, false, cond, List, [], ◌∷◌, map, length, get_or, slice_get, Option, Some, None}
+use Rattle.masm_uses.proofs.Words.{◌⊎◌, inl, inr, refl, sym, ap, subst, ◌∙◌, bytes_eq, unwrap_or, arith, cases_Bool, length-map, Contains-append_left}
+use Rattle.masm_uses.proofs.Words.{Contains-append_right, Contains-append_cases, Contains-push, bytes_eq-Decides, flat_map, Contains, option_map, Proc}
+use Rattle.masm_uses.proofs.Words.{Procedure, procedure_of, body_of, LinkCause, missing_cause, Leads, itself, through, own_target, kernel_target, target_of}
+use Rattle.masm_uses.proofs.Words.{link_of, links_in, UsesProcedure, AreUsers, Owner, Own, Kernel, Use, uses_of, place_in, first_place, UsedIn, Reaches}
+use Rattle.masm_uses.proofs.Words.{cons_cases, user_within, Leads-push}
 use Rattle.std.proofs.lemmas.Option.{slice_get-map, slice_get-get_or, slice_get_within, get_or_from_slice_get, slice_get_cases}
-use Rattle.std.proofs.lemmas.Slice.Eq.{bytes_eq-Decides}
-use Rattle.std.specs.List.{flat_map, Contains}
-use Rattle.std.specs.Option.{option_map}
-use Rattle.masm_tree.specs.declared.tree.Proc.{Proc}
-use Rattle.masm_tree.specs.Trees.{Procedure}
-use Rattle.masm_tree.specs.Views.{procedure_of, body_of}
 use Rattle.masm_graph.specs.declared.links.Target.TheVariants as targets
-use Rattle.masm_names.specs.declared.refusal.LinkCause.{LinkCause}
 use Rattle.masm_names.specs.declared.refusal.LinkCause.TheVariants as causes
-use Rattle.masm_uses.specs.Dangling.{missing_cause}
-use Rattle.graphs.specs.Graph.{Leads, itself, through}
-use Rattle.masm_graph.specs.Links.{own_target, kernel_target, target_of, link_of, links_in}
-use Rattle.masm_graph.specs.Users.{UsesProcedure, AreUsers}
 use Rattle.masm_names.specs.Uses as uses
-use Rattle.masm_names.specs.Uses.{Owner, Own, Kernel, Use, uses_of, place_in, first_place, UsedIn, Reaches}
-use Rattle.masm_names.proofs.DoubleLemmas.{cons_cases}
-use Rattle.masm_graph.proofs.UserLemmas.{user_within}
-use Rattle.graphs.proofs.WalkLemmas.{Leads-push}
 
 -- Elements by their places.
 pub contains_at : {X : Type 0} (xs : List X) (k : ℕ) (x : X) → slice_get xs k ≡ Some x → Contains xs x

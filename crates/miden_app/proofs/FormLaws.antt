@@ -1,18 +1,14 @@
 -- What the words of a command ask for is what their texts do, and nothing where they cannot be meant.
-use Rattle.std.proofs.Common.{◌≡◌, ◌∙◌, ◌<◌, ℕ, Bool, true, false, refl, ap, List, [], ◌∷◌, length, map, lit<, arith, Option, Some, None}
+use Rattle.std.proofs.Common.{◌≡◌, ◌∙◌, ℕ, Bool, true, false, refl, ap, List, [], ◌∷◌, length, map, lit<, Option, Some, None}
 use Rattle.std.specs.Prelude.{IfSome, if◌then◌else◌, nat_lt, option_and_then, option_map, unwrap_or}
 use Rattle.std.specs.List.{list_all}
-use Rattle.std.specs.Str.{IsAscii}
-use Rattle.std.proofs.lemmas.Bool.{and_parts}
-use Rattle.std.proofs.lemmas.Bool.Decides.{nat_tests}
-use Rattle.std.proofs.lemmas.Str.{IsUtf8-from_ascii}
-use Rattle.std.proofs.lemmas.Str.Ascii.{IsAscii-cons, IsAscii-nil}
 use Rattle.vm_field.specs.Limits.{most_cycles}
 use Rattle.workloads.specs.Workloads.{most_turns}
 use Rattle.cmd_words.specs.Words.{file_name_of, is_form, number_of_word, optional}
 use Rattle.cmd_reading.specs.Form.{AllText, IsForm, IsPlain, dashed, options_of}
 use Rattle.cmd_reading.specs.Meaning.{AreThere, IsThere, MayBeMeant, MayStand, HasForm, texts_in}
-use Rattle.cmd_reading.proofs.PlainParts.{Texts, meant-text}
+use Rattle.cmd_reading.proofs.AsciiNames.{ascii_text}
+use Rattle.cmd_reading.proofs.PlainParts.{meant-text}
 use Rattle.cmd_reading.proofs.PlainTexts.{by_free, by_needed, by_place, plain_name, plain_number}
 use Rattle.cmd_kit.specs.Asked.{Asked, assemble_of_names, chain_of_names, check_of_names, hash_of_names, made_names, make_of_names, member_of_names, most_depth, most_pieces, nothing, outputs_named, run_of_names, runs_of_names}
 use Rattle.miden_app.specs.declared.names.CommandName.{CommandName}
@@ -197,19 +193,6 @@ unmeant_is_nothing n words h =
         → (if b then asked_in n (texts_in (form_named n) words) else nothing) ≡ nothing
     go true e = no_texts n words (λ places needed free. h (record { form = e; places = places; needed = needed; free = free }))
     go false e = refl
-
-ascii : (bs : Text) → list_all (λ b. nat_lt b 128) bs ≡ true → IsAscii bs
-ascii [] h = IsAscii-nil
-ascii (b ∷ bs) h = let p = and_parts (nat_lt b 128) (list_all (λ b. nat_lt b 128) bs) h in IsAscii-cons b bs (below b p.0) (ascii bs p.1)
-  where
-    below : (b : ℕ) → nat_lt b 128 ≡ true → b < 128
-    below b q = grind (arith, nat_tests)
-
-ascii_text : (names : List Text) → list_all (list_all (λ b. nat_lt b 128)) names ≡ true → Texts names
-ascii_text [] h = tt
-ascii_text (x ∷ xs) h =
-    let p = and_parts (list_all (λ b. nat_lt b 128) x) (list_all (list_all (λ b. nat_lt b 128)) xs) h in
-    (IsUtf8-from_ascii x (ascii x p.0), ascii_text xs p.1)
 
 -- words that are not all text ask for nothing
 pub untexts_are_nothing : (n : CommandName) (words : List Text) → (AllText words → ⊥) → asked_by n words ≡ nothing

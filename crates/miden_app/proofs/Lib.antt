@@ -1,3 +1,2 @@
 pub mod FormLaws
 pub mod ObeyLemmas
-pub mod PrintingLemmas

@@ -1,9 +1,9 @@
 -- The form of the words behind each command's name, and what the texts in them ask for.
-use Rattle.std.specs.Prelude.{ℕ, List, [], ◌∷◌, codes, Option, option_and_then, option_map, unwrap_or}
+use Rattle.std.specs.Prelude.{ℕ, List, [], ◌∷◌, codes, Option}
 use Rattle.vm_field.specs.Limits.{most_cycles}
-use Rattle.cmd_words.specs.Words.{file_name_of, number_of_word, optional}
 use Rattle.cmd_reading.specs.Form.{WordForm}
-use Rattle.cmd_reading.specs.Meaning.{FormTexts, text_at}
+use Rattle.cmd_reading.specs.Meaning.{FormTexts}
+use Rattle.cmd_reading.specs.Values.{name_in, number_in, option_name, option_number, option_number_or_most}
 use Rattle.miden_app.specs.declared.names.CommandName.{CommandName}
 use Rattle.miden_app.specs.declared.names.CommandName.TheVariants as name
 use Rattle.workloads.specs.Workloads.{most_turns}
@@ -51,22 +51,6 @@ form_named name.Member = record {
   free = codes "pieces" ∷ [];
 }
 
--- the file name at a place
-abbrev pub name_in : ℕ → List (Option (List ℕ)) → Option (List ℕ)
-name_in i texts = option_and_then file_name_of (text_at i texts)
-
--- the number at a place
-abbrev pub number_in : ℕ → ℕ → ℕ → List (Option (List ℕ)) → Option ℕ
-number_in least most i texts = option_and_then (number_of_word least most) (text_at i texts)
-
--- the file name that an option gives, and none where its text is no file name
-abbrev pub option_name : ℕ → List (Option (List ℕ)) → Option (Option (List ℕ))
-option_name i texts = optional file_name_of (text_at i texts)
-
--- the number that an option gives, and none where its text is no such number
-abbrev pub option_number : ℕ → ℕ → ℕ → List (Option (List ℕ)) → Option (Option ℕ)
-option_number least most i texts = optional (number_of_word least most) (text_at i texts)
-
 -- what the texts behind the name ask for
 abbrev pub check_in : FormTexts → Asked
 check_in t =
@@ -83,7 +67,7 @@ abbrev pub outputs_read : FormTexts → Option Outputs
 outputs_read t = outputs_named (option_name 0 t.needed) (option_name 1 t.needed)
 
 abbrev pub limit_read : FormTexts → Option ℕ
-limit_read t = option_map (λ limit. unwrap_or limit most_cycles) (option_number 1 most_cycles 1 t.free)
+limit_read t = option_number_or_most 1 most_cycles 1 t.free
 
 abbrev pub run_in : FormTexts → Asked
 run_in t = run_of_names (name_in 0 t.places) (name_in 1 t.places) (name_in 2 t.places) (outputs_read t) (option_name 0 t.free) (limit_read t)

@@ -5,7 +5,6 @@ mod hash;
 mod names;
 mod obeying;
 mod serving;
-mod texts;
 mod words;
 
 pub use cmd_check::Seed;

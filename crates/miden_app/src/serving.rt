@@ -1,13 +1,12 @@
 ghost use Rattle.cmd_words.specs.Words.{texts};
-ghost use Rattle.cmd_kit.specs.Outcomes.{PrintStep};
 ghost use Rattle.cmd_kit.specs.Serving.{Serves};
 
 use crate::obeying::obey;
 use cmd_check::Seed;
-use cmd_kit::{Outcome, Status};
+use cmd_kit::{Status, print};
 use std::alloc::Global;
 use std::thread::Threads;
-use vm_io::{Gate, Shelf, Sink, SinkStop};
+use vm_io::{Gate, Shelf, Sink};
 
 /// Does what the words after the program's name ask for, over the shelf's files, and prints its
 /// line. No file, line or status depends on the seed, from which the counts of `check` and `make` are
@@ -22,7 +21,7 @@ use vm_io::{Gate, Shelf, Sink, SinkStop};
 /// to with some bytes for each file that was read, no more than are read of it. All else holds of it
 /// as of others: words of no command leave it untouched, and its counts of faults rise exactly where
 /// a status says so, behind a line that was not printed, or at `Memory`.
-#[tactic(auto, using(crate::proofs::PrintingLemmas::serves_steps))]
+#[tactic(auto, using(cmd_kit::proofs::PrintingLemmas::serves_steps))]
 pub fn serve<R: Threads + Sync, F: Shelf, K: Sink, G: Gate>(
     rt: &R,
     alloc: Global,
@@ -37,18 +36,4 @@ pub fn serve<R: Threads + Sync, F: Shelf, K: Sink, G: Gate>(
 {
     let outcome = obey(rt, alloc, seed, words, shelf, gate);
     print(alloc, out, outcome)
-}
-
-// Prints the line of a command in one call of the sink.
-fn print<K: Sink>(alloc: Global, out: &mut K, outcome: Outcome) -> Status
-    ensures { PrintStep outcome result (K.state out.old) (K.state out.new) }
-{
-    match outcome {
-        Outcome::Ends(answer) => match out.write(alloc, answer.line.as_slice()) {
-            Ok(()) => answer.status,
-            Err(SinkStop::Failed) => Status::SinkFault,
-            Err(SinkStop::Memory) => Status::Memory,
-        },
-        Outcome::Memory => Status::Memory,
-    }
 }

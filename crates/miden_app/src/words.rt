@@ -13,9 +13,11 @@ ghost use Rattle.miden_app.specs.Asking.{asks, NamesFiles};
 ghost use Rattle.miden_app.specs.Forms.{asked_by, asked_in, assemble_in, chain_in, check_in, hash_in, limit_read, made_names_read, make_in, member_in, outputs_read, run_in, runs_in};
 
 use crate::names::{CommandName, form_of_command};
-use crate::texts::{free_name, free_number, needed_name, needed_number, place_name, place_number};
 use cmd_make::MadeNames;
-use cmd_reading::{ReadWords, WordsStop, read_words};
+use cmd_reading::{
+    ReadWords, WordsStop, free_name, free_number, free_number_or_most, needed_name, needed_number,
+    place_name, place_number, read_words,
+};
 use cmd_run::Outputs;
 use std::alloc::Global;
 use vm_field::{MOST_CYCLES, Memory};
@@ -407,9 +409,8 @@ fn limit_of(read: &ReadWords<'_>) -> Option<u32>
     ensures is { result ≡ limit_read (texts_read read.now) }
     ensures small { IfSome result (λ limit. limit ≤ most_cycles) }
 {
-    match free_number(1, u64::from(MOST_CYCLES), read, 1) {
-        Some(Some(limit)) => Some(limit as u32),
-        Some(None) => Some(MOST_CYCLES),
+    match free_number_or_most(1, u64::from(MOST_CYCLES), read, 1) {
+        Some(limit) => Some(limit as u32),
         None => None,
     }
 }

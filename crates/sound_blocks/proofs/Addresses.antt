@@ -1,13 +1,10 @@
 -- Where the hasher's table gives the blocks of a hash: at the first row of eight, so that no address of one wraps.
-use Rattle.std.proofs.Common.{◌≡◌, ◌⊎◌, inl, inr, ℕ, zero, suc, ◌+◌, ◌%◌, ◌<◌, Bool, true, false, cond, if◌then◌else◌, eqb, nat_eq, List, [], ◌∷◌, length, slice_index, slice_index_or, refl, sym, ap, ◌∙◌, arith}
-use Rattle.std.proofs.lemmas.Bool.{cases_Bool, eqb-true}
+use Rattle.sound_blocks.proofs.Words.{◌≡◌, ◌⊎◌, inl, inr, ℕ, zero, suc, ◌+◌, ◌%◌, ◌<◌, Bool, true, false, cond, if◌then◌else◌, eqb, nat_eq, List, [], ◌∷◌}
+use Rattle.sound_blocks.proofs.Words.{length, slice_index, slice_index_or, refl, sym, ap, ◌∙◌, arith, cases_Bool, eqb-true, prime, ◌⊞◌, hasher_gives}
 use Rattle.std.specs.Cmp.Lexicographic.{same_text}
-use Rattle.vm_field.specs.Field.{prime}
-use Rattle.vm_field.specs.Signs.{◌⊞◌}
 use Rattle.buses.specs.Counts.{counted, once, over_first, total}
 use Rattle.chip_columns.specs.HasherColumns.{mode, cont, more}
 use Rattle.air_kit.specs.ChipTuples.{hasher_given, permutation_begins, permutation_ends}
-use Rattle.sound_buses.specs.Lookups.{hasher_gives}
 use lib.Pointwise.{pointwise}
 
 one_of_two : (k m : ℕ) → 0 < k + m → (0 < k) ⊎ (0 < m)

@@ -1,20 +1,9 @@
 -- The calls that are open, and the cells that they have set aside: those of their starts.
-use Rattle.std.proofs.Common.{◌≡◌, inl, inr, ℕ, suc, ◌<◌, Bool, true, false, ◌&&◌, eqb, List, [], ◌∷◌, length, map, drop, refl, sym, ap, ap₂, ◌∙◌}
-use Rattle.std.proofs.lemmas.Bool.{cases_Bool, eqb-true, cond-true, cond-false}
-use Rattle.vm_field.specs.Signs.{◌⊞◌}
-use Rattle.vm_ops.specs.Codes.{code_of, is_start_op}
+use Rattle.sound_blocks.proofs.Words.{◌≡◌, inl, inr, ℕ, suc, ◌<◌, Bool, true, false, ◌&&◌, eqb, List, [], ◌∷◌, length, map, drop, refl, sym, ap, ap₂, ◌∙◌}
+use Rattle.sound_blocks.proofs.Words.{cases_Bool, eqb-true, cond-true, cond-false, ◌⊞◌, code_of, is_start_op, code_of-different, is_op, is_call_op, Claim}
+use Rattle.sound_blocks.proofs.Words.{row_returns, row_at, op_in, Closes, FrameFacts, IsBlock, open_at, below_at}
 use Rattle.vm_ops.specs.declared.op.Op.TheVariants as ops
-use Rattle.vm_ops.proofs.CodeLemmas.{code_of-different}
-use Rattle.air_kit.specs.Flags.{is_op}
-use Rattle.air_kit.specs.MainTuples.{is_call_op}
-use Rattle.air_kit.specs.Places.{Claim}
-use Rattle.air_kit.specs.RowStates.{row_returns}
-use Rattle.vm_table.specs.Layout.{row_at}
-use Rattle.facts_main.specs.MainRows.{op_in}
-use Rattle.sound_buses.specs.Blocks.{Closes}
-use Rattle.sound_blocks.specs.Frames.{FrameFacts, IsBlock, open_at}
 use Rattle.sound_blocks.specs.Keys.{calls_among, open_calls}
-use Rattle.sound_blocks.specs.Lists.{below_at}
 use Rattle.sound_blocks.proofs.RowKinds.{call_flags}
 
 pub calls-call : (rows : List (List ℕ)) (j : ℕ) (js : List ℕ) → is_call_op (op_in rows j) ≡ true

@@ -1,18 +1,10 @@
 -- The rows of a batch read it, from its start on.
-use Rattle.std.proofs.Common.{◌≡◌, ℕ, zero, suc, ◌+◌, ◌-◌, ◌<◌, true, ◌||◌, List, length, take, drop, refl, sym, ap, ◌∙◌, arith}
-use Rattle.vm_ops.specs.Codes.{is_ordinary_op}
+use Rattle.sound_blocks.proofs.Words.{◌≡◌, ℕ, zero, suc, ◌+◌, ◌-◌, ◌<◌, true, ◌||◌, List, length, take, drop, refl, sym, ap, ◌∙◌, arith, is_ordinary_op, h}
+use Rattle.sound_blocks.proofs.Words.{gc, ox, ha, s, is_op, eight, positions, Claim, row_at, ShowsRows, op_in, IsPair, Begins, GroupFacts, batch_at}
+use Rattle.sound_blocks.proofs.Words.{HasBatchRows}
 use Rattle.vm_ops.specs.declared.op.Op.TheVariants as ops
-use Rattle.vm_table.specs.MainColumns.{h, gc, ox, ha, s}
 use Rattle.op_pack.specs.Reading.{read_on, reading}
-use Rattle.air_kit.specs.Flags.{is_op}
-use Rattle.air_kit.specs.MainTuples.{eight, positions}
-use Rattle.air_kit.specs.Places.{Claim}
 use Rattle.facts_main.specs.Batches.{ShowsBatch, OpensBatch}
-use Rattle.vm_table.specs.Layout.{row_at}
-use Rattle.facts_main.specs.MainRows.{ShowsRows, op_in}
-use Rattle.facts_main.specs.RowFacts.{IsPair}
-use Rattle.sound_buses.specs.Batches.{Begins, GroupFacts, batch_at}
-use Rattle.sound_blocks.specs.Spans.{HasBatchRows}
 use Rattle.sound_blocks.proofs.Tests.{behind_start, ordinary_goes}
 use Rattle.sound_blocks.proofs.InUse.{in_use_is, left_of}
 use Rattle.sound_blocks.proofs.BatchRows.{IsRead, Runs, not_last, one_before}

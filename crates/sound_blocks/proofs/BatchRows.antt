@@ -1,19 +1,8 @@
 -- How the rows of a batch read it: from each row on, by the row behind it.
-use Rattle.std.proofs.Common.{◌≡◌, ◌≢◌, ℕ, suc, ◌-◌, ◌<◌, ◌≤◌, Bool, true, false, ◌&&◌, ◌||◌, cond, List, ◌∷◌, length, Some, None, sym, ap, subst, ◌∙◌, arith}
-use Rattle.vm_ops.specs.Codes.{is_ordinary_op}
-use Rattle.vm_ops.specs.Items.{plain_item, push_item}
-use Rattle.vm_ops.specs.declared.item.Item.{Item}
-use Rattle.vm_ops.specs.declared.op.Op.{Op}
+use Rattle.sound_blocks.proofs.Words.{◌≡◌, ◌≢◌, ℕ, suc, ◌-◌, ◌<◌, ◌≤◌, Bool, true, false, ◌&&◌, ◌||◌, cond, List, ◌∷◌, length, Some, None, sym, ap, subst}
+use Rattle.sound_blocks.proofs.Words.{◌∙◌, arith, is_ordinary_op, plain_item, push_item, Item, Op, addr, h, gc, ox, ha, s, is_op, positions, Claim, row_at}
+use Rattle.sound_blocks.proofs.Words.{ShowsRows, op_in, halts_last, Begins, GroupFacts, IsTaken, batch_at, AreItems, item_at}
 use Rattle.vm_ops.specs.declared.op.Op.TheVariants as ops
-use Rattle.vm_table.specs.MainColumns.{addr, h, gc, ox, ha, s}
-use Rattle.air_kit.specs.Flags.{is_op}
-use Rattle.air_kit.specs.MainTuples.{positions}
-use Rattle.air_kit.specs.Places.{Claim}
-use Rattle.vm_table.specs.Layout.{row_at}
-use Rattle.facts_main.specs.MainRows.{ShowsRows, op_in}
-use Rattle.facts_main.proofs.RunFacts.{halts_last}
-use Rattle.sound_buses.specs.Batches.{Begins, GroupFacts, IsTaken, batch_at}
-use Rattle.sound_blocks.specs.Items.{AreItems, item_at}
 use Rattle.sound_blocks.proofs.Tests.{op_same}
 use Rattle.sound_blocks.proofs.InUse.{TakesPlace, left_of}
 use Rattle.sound_blocks.proofs.FoundSteps.{Found}

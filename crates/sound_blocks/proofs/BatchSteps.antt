@@ -1,20 +1,9 @@
 -- Each row of a batch, by how its group goes on.
-use Rattle.std.proofs.Common.{◌≡◌, ◌≢◌, ℕ, suc, ◌-◌, ◌<◌, ◌≤◌, true, false, ◌||◌, List, [], ◌∷◌, length, sym, ap, subst, ◌∙◌, arith}
-use Rattle.std.proofs.lemmas.Bool.{eq-eqb, cond-true}
-use Rattle.vm_field.specs.Signs.{◌⊞◌, ◌⊠◌}
-use Rattle.vm_ops.specs.Codes.{code_of, is_ordinary_op}
-use Rattle.vm_ops.specs.declared.item.Item.{Item}
-use Rattle.vm_ops.specs.declared.op.Op.{Op}
+use Rattle.sound_blocks.proofs.Words.{◌≡◌, ◌≢◌, ℕ, suc, ◌-◌, ◌<◌, ◌≤◌, true, false, ◌||◌, List, [], ◌∷◌, length, sym, ap, subst, ◌∙◌, arith, eq-eqb}
+use Rattle.sound_blocks.proofs.Words.{cond-true, ◌⊞◌, ◌⊠◌, code_of, is_ordinary_op, Item, Op, h, gc, ox, s, sp, is_op, opens_group, positions, row_at}
+use Rattle.sound_blocks.proofs.Words.{ShowsRow, op_in, IsPair, nothing_left, over, next, item_at}
 use Rattle.vm_ops.specs.declared.op.Op.TheVariants as ops
-use Rattle.vm_table.specs.MainColumns.{h, gc, ox, s, sp}
-use Rattle.air_kit.specs.Flags.{is_op}
-use Rattle.air_kit.specs.MainTuples.{opens_group, positions}
 use Rattle.facts_main.specs.Groups.{GoesOn, stays, pushes, opens, ends}
-use Rattle.vm_table.specs.Layout.{row_at}
-use Rattle.facts_main.specs.MainRows.{ShowsRow, op_in}
-use Rattle.facts_main.specs.RowFacts.{IsPair}
-use Rattle.facts_main.proofs.RunFacts.{nothing_left}
-use Rattle.sound_blocks.specs.Items.{over, next, item_at}
 use Rattle.sound_blocks.proofs.Tests.{op_same, op_apart, plain_code, ordinary_keeps, behind_last, stop_goes}
 use Rattle.sound_blocks.proofs.DigitSteps.{next_place, fewer_left}
 use Rattle.sound_blocks.proofs.InUse.{TakesPlace, left_of, left_more, left_none}

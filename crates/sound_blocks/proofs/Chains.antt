@@ -1,17 +1,9 @@
 -- What a chain has in front, and that its cells are elements.
-use Rattle.std.proofs.Common.{◌≡◌, ℕ, suc, ◌-◌, ◌<◌, ◌≤◌, ◌^◌, false, List, ◌∷◌, length, slice_index, sym, ap, subst, ◌∙◌, arith}
-use Rattle.vm_field.specs.Field.{prime, AreElements}
+use Rattle.sound_blocks.proofs.Words.{◌≡◌, ℕ, suc, ◌-◌, ◌<◌, ◌≤◌, ◌^◌, false, List, ◌∷◌, length, slice_index, sym, ap, subst, ◌∙◌, arith, prime, AreElements}
+use Rattle.sound_blocks.proofs.Words.{s, deep_at_start, input_key, input_keys, key_of, is_right, Claim, row_at, op_in, off, IsEntry, IsInput, IsPushed, input}
+use Rattle.sound_blocks.proofs.Words.{pushed, Chain, none, some, rank_of}
 use Rattle.vm_field.proofs.Elements.{elements-cons, elements-index, elements-none}
-use Rattle.vm_table.specs.MainColumns.{s}
-use Rattle.air_kit.specs.DeepCells.{deep_at_start, input_key, input_keys, key_of}
-use Rattle.air_kit.specs.Flags.{is_right}
-use Rattle.air_kit.specs.Places.{Claim}
 use Rattle.air_kit.proofs.InputKeys.{input_key_high, input_key_one}
-use Rattle.vm_table.specs.Layout.{row_at}
-use Rattle.facts_main.specs.MainRows.{op_in}
-use Rattle.facts_main.proofs.Says.{off}
-use Rattle.sound_buses.specs.Overflow.{IsEntry, IsInput, IsPushed, input, pushed}
-use Rattle.sound_blocks.specs.Chains.{Chain, none, some, rank_of}
 
 -- Few rows and few inputs, so that no clock is an input's key; and the first row, whose clock is 0, pushes no cell.
 pub record KeysDiffer (k : Claim) (rows : List (List ℕ)) : Type 0 where

@@ -1,18 +1,8 @@
 -- In which context a row runs, and whether inside of a syscall.
-use Rattle.std.proofs.Common.{◌≡◌, ℕ, suc, ◌^◌, ◌<◌, ◌≤◌, Bool, true, false, ◌&&◌, ◌||◌, cond, eqb, List, length, slice_index, refl, sym, ap, ◌∙◌, subst, arith}
-use Rattle.vm_field.specs.Field.{prime, felt_add}
-use Rattle.vm_ops.specs.declared.op.Op.{Op}
+use Rattle.sound_blocks.proofs.Words.{◌≡◌, ℕ, suc, ◌^◌, ◌<◌, ◌≤◌, Bool, true, false, ◌&&◌, ◌||◌, cond, eqb, List, length, slice_index, refl, sym, ap, ◌∙◌}
+use Rattle.sound_blocks.proofs.Words.{subst, arith, prime, felt_add, Op, clk, ctx, sys, h, s, is_op, is_call_op, Claim, ends_call, stays_in_function, row_at}
+use Rattle.sound_blocks.proofs.Words.{ShowsRows, op_in, clock_is, off, BlockFacts, Closes, ShowsKind}
 use Rattle.vm_ops.specs.declared.op.Op.TheVariants as ops
-use Rattle.vm_table.specs.MainColumns.{clk, ctx, sys, h, s}
-use Rattle.air_kit.specs.Flags.{is_op}
-use Rattle.air_kit.specs.MainTuples.{is_call_op}
-use Rattle.air_kit.specs.Places.{Claim}
-use Rattle.facts_main.specs.Blocks.{ends_call, stays_in_function}
-use Rattle.vm_table.specs.Layout.{row_at}
-use Rattle.facts_main.specs.MainRows.{ShowsRows, op_in}
-use Rattle.facts_main.proofs.RunFacts.{clock_is}
-use Rattle.facts_main.proofs.Says.{off}
-use Rattle.sound_buses.specs.Blocks.{BlockFacts, Closes, ShowsKind}
 use Rattle.sound_blocks.proofs.Operations.{op_named}
 use Rattle.sound_blocks.proofs.Rows.{each_row}
 use Rattle.sound_blocks.proofs.OpenBlocks.{closes_newest, newest_at}

@@ -1,8 +1,6 @@
 -- A group's number in a row and what is left of it in the row behind: no digit wraps, since a group has nine at most.
-use Rattle.std.proofs.Common.{◌≡◌, ℕ, zero, suc, ◌+◌, ◌-◌, ◌*◌, ◌^◌, ◌<◌, ◌≤◌, arith, lit≤}
+use Rattle.sound_blocks.proofs.Words.{◌≡◌, ℕ, zero, suc, ◌+◌, ◌-◌, ◌*◌, ◌^◌, ◌<◌, ◌≤◌, arith, lit≤, ◌⊞◌, ◌⊠◌, prime}
 use Rattle.std.proofs.Math.Nat.{pow-suc}
-use Rattle.vm_field.specs.Signs.{◌⊞◌, ◌⊠◌}
-use Rattle.vm_field.specs.Field.{prime}
 
 -- eight digits
 pub eight_digits : (k : ℕ) → k ≤ 8 → 128 ^ k ≤ 72057594037927936

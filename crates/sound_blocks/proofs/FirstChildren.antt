@@ -1,17 +1,8 @@
 -- A join has a second child: what stands before its only first one.
-use Rattle.std.proofs.Common.{◌≡◌, ℕ, zero, suc, ◌<◌, Bool, true, false, List, refl, sym, ap, ◌∙◌, subst, arith}
-use Rattle.vm_ops.specs.Codes.{is_start_op}
-use Rattle.vm_ops.specs.declared.op.Op.{Op}
+use Rattle.sound_blocks.proofs.Words.{◌≡◌, ℕ, zero, suc, ◌<◌, Bool, true, false, List, refl, sym, ap, ◌∙◌, subst, arith, is_start_op, Op, addr, s, front}
+use Rattle.sound_blocks.proofs.Words.{back, Claim, row_at, ShowsRows, op_in, never, off, BlockFacts, Closes, IsAt, Starts, own, ChildFacts, EndsFirst}
+use Rattle.sound_blocks.proofs.Words.{FirstChild, IsOnlyChild, StartsSecond}
 use Rattle.vm_ops.specs.declared.op.Op.TheVariants as ops
-use Rattle.vm_table.specs.MainColumns.{addr, s}
-use Rattle.air_kit.specs.MainTuples.{front, back}
-use Rattle.air_kit.specs.Places.{Claim}
-use Rattle.vm_table.specs.Layout.{row_at}
-use Rattle.facts_main.specs.MainRows.{ShowsRows, op_in}
-use Rattle.facts_main.proofs.Says.{never, off}
-use Rattle.sound_buses.specs.Blocks.{BlockFacts, Closes, IsAt, Starts, own}
-use Rattle.sound_buses.specs.Children.{ChildFacts, EndsFirst, FirstChild}
-use Rattle.sound_blocks.specs.Nesting.{IsOnlyChild, StartsSecond}
 use Rattle.sound_blocks.proofs.Operations.{BeforeStart, before_start}
 use Rattle.sound_blocks.proofs.OpenBlocks.{closes_newest, newest_at, no_zero}
 use Rattle.sound_blocks.proofs.Names.{NamedBy, Next, child_of, keeps_at, next_of, same_block, starts_by, turned}

@@ -1,10 +1,6 @@
 -- What is read from a row on, by what is read from the row behind it: positions, room, number.
-use Rattle.std.proofs.Common.{◌≡◌, ◌≢◌, ℕ, suc, ◌+◌, ◌*◌, ◌^◌, ◌<◌, ◌≤◌, lit<, List, [], ◌∷◌, Some, arith, subst}
-use Rattle.vm_field.specs.Signs.{◌⊞◌, ◌⊠◌}
-use Rattle.vm_ops.specs.Codes.{code_of}
-use Rattle.vm_ops.specs.Items.{plain_item, push_item}
-use Rattle.vm_ops.specs.declared.item.Item.{Item}
-use Rattle.vm_ops.specs.declared.op.Op.{Op}
+use Rattle.sound_blocks.proofs.Words.{◌≡◌, ◌≢◌, ℕ, suc, ◌+◌, ◌*◌, ◌^◌, ◌<◌, ◌≤◌, lit<, List, [], ◌∷◌, Some, arith, subst, ◌⊞◌, ◌⊠◌, code_of, plain_item}
+use Rattle.sound_blocks.proofs.Words.{push_item, Item, Op}
 use Rattle.op_pack.specs.Reading.{read_on}
 use Rattle.sound_blocks.proofs.ReadSteps.{read-stays, read-opens, read-ends, read-pushes}
 use Rattle.sound_blocks.proofs.DigitSteps.{unwrapped, one_more, one_digit}

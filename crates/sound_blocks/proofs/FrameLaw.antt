@@ -1,11 +1,5 @@
 -- The law of frames.
-use Rattle.std.proofs.Common.{ℕ, arith}
-use Rattle.air_kit.specs.Traces.{claim_of}
-use Rattle.air_kit.specs.declared.trace.Public.{Public}
-use Rattle.air_kit.specs.declared.trace.Trace.{Trace}
-use Rattle.sound_buses.specs.Blocks.{Closes}
-use Rattle.sound_buses.specs.BusFacts.{Granted}
-use Rattle.sound_blocks.specs.Frames.{GrantedFrames, IsBlock}
+use Rattle.sound_blocks.proofs.Words.{ℕ, arith, claim_of, Public, Trace, Closes, Granted, GrantedFrames, IsBlock}
 use Rattle.sound_blocks.proofs.OpenBlocks.{address_of, closes_newest, newest_at}
 use Rattle.sound_blocks.proofs.Levels.{level_at, nested_at}
 use Rattle.sound_blocks.proofs.Contexts.{context_at, context_below}

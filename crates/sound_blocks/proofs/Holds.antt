@@ -1,24 +1,10 @@
 -- What holds of each row: its key's chain is what is below, its depth counts it, and its key is the clock of a row before.
-use Rattle.std.proofs.Common.{◌≡◌, ◌≢◌, ◌⊎◌, inl, inr, ℕ, zero, suc, ◌+◌, ◌-◌, ◌<◌, ◌≤◌, ◌^◌, Bool, true, false, ◌||◌, not, List, [], ◌∷◌, length, drop, slice_index, refl, sym, ap, subst, ◌∙◌, arith}
-use Rattle.std.proofs.lemmas.List.{drop_all}
-use Rattle.std.proofs.Math.Seq.{drop-cons}
-use Rattle.vm_field.specs.Signs.{◌⊞◌, ◌⊟◌}
-use Rattle.vm_field.specs.Field.{prime, AreElements}
-use Rattle.vm_table.specs.MainColumns.{s, depth, key}
-use Rattle.air_kit.specs.DeepCells.{deep_at_start, depth_at_start, input_key, input_keys, key_at_start, key_of}
-use Rattle.air_kit.specs.Flags.{is_right}
-use Rattle.air_kit.specs.MainTuples.{is_call_op, row_shifts_left}
-use Rattle.air_kit.specs.Places.{Claim}
-use Rattle.air_kit.specs.RowStates.{Overflow, overflow_at, row_returns}
-use Rattle.vm_table.specs.Layout.{row_at}
-use Rattle.facts_main.specs.MainRows.{ShowsRows, op_in}
+use Rattle.sound_blocks.proofs.Words.{◌≡◌, ◌≢◌, ◌⊎◌, inl, inr, ℕ, zero, suc, ◌+◌, ◌-◌, ◌<◌, ◌≤◌, ◌^◌, Bool, true, false, ◌||◌, not, List, [], ◌∷◌, length}
+use Rattle.sound_blocks.proofs.Words.{drop, slice_index, refl, sym, ap, subst, ◌∙◌, arith, drop_all, drop-cons, ◌⊞◌, ◌⊟◌, prime, AreElements, s, depth, key}
+use Rattle.sound_blocks.proofs.Words.{deep_at_start, depth_at_start, input_key, input_keys, key_at_start, key_of, is_right, is_call_op, row_shifts_left}
+use Rattle.sound_blocks.proofs.Words.{Claim, Overflow, overflow_at, row_returns, row_at, ShowsRows, op_in, clock_is, shifts_left_is, off, OverflowFacts}
+use Rattle.sound_blocks.proofs.Words.{input, pushed, FrameFacts, IsBlock, below_at, Chain, none, some, rank_of}
 use Rattle.facts_main.specs.Stack.{MovesDepth}
-use Rattle.facts_main.proofs.RunFacts.{clock_is, shifts_left_is}
-use Rattle.facts_main.proofs.Says.{off}
-use Rattle.sound_buses.specs.Overflow.{OverflowFacts, input, pushed}
-use Rattle.sound_blocks.specs.Frames.{FrameFacts, IsBlock}
-use Rattle.sound_blocks.specs.Lists.{below_at}
-use Rattle.sound_blocks.specs.Chains.{Chain, none, some, rank_of}
 use Rattle.sound_blocks.proofs.Chains.{KeysDiffer, Front, front_of}
 use Rattle.sound_blocks.proofs.Ranks.{clock_falls, inputs_fall, rank_inputs}
 use Rattle.sound_blocks.proofs.RowKinds.{Movement, right, flat, deeper, calls, returns, keeps, kind_of, behind_right, behind_flat, behind_deeper, behind_call, behind_same, returns_ends, start_apart}

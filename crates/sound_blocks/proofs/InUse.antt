@@ -1,12 +1,8 @@
 -- The positions that a row says are in use are those of its batch.
-use Rattle.std.proofs.Common.{◌≡◌, ◌≢◌, ◌⊎◌, inl, inr, ℕ, zero, suc, ◌+◌, ◌-◌, ◌<◌, ◌≤◌, Bool, true, false, eqb, ◌&&◌, List, [], ◌∷◌, drop, slice_index, refl, sym, ap, ap₂, ◌∙◌, arith, lit<, take, get_or}
-use Rattle.std.proofs.lemmas.Bool.{eq-eqb, ne_eqb, cond-true, cond-false}
-use Rattle.std.proofs.Math.Seq.{drop-cons}
-use Rattle.std.proofs.lemmas.List.{drop-take, get_or-take, length-take-le}
-use Rattle.vm_field.specs.Field.{felt_add, felt_mul}
-use Rattle.vm_table.specs.MainColumns.{h, c}
+use Rattle.sound_blocks.proofs.Words.{◌≡◌, ◌≢◌, ◌⊎◌, inl, inr, ℕ, zero, suc, ◌+◌, ◌-◌, ◌<◌, ◌≤◌, Bool, true, false, eqb, ◌&&◌, List, [], ◌∷◌, drop}
+use Rattle.sound_blocks.proofs.Words.{slice_index, refl, sym, ap, ap₂, ◌∙◌, arith, lit<, take, get_or, eq-eqb, ne_eqb, cond-true, cond-false, drop-cons}
+use Rattle.sound_blocks.proofs.Words.{drop-take, get_or-take, length-take-le, felt_add, felt_mul, h, c, eight, positions}
 use Rattle.op_pack.specs.Reading.{are_zero, positions_in_use}
-use Rattle.air_kit.specs.MainTuples.{eight, positions}
 use Rattle.facts_main.specs.Batches.{IsBatchRow, ShowsBatch, UsesHalf}
 use Rattle.facts_main.proofs.BatchFacts.{half_used}
 

@@ -1,24 +1,11 @@
 -- The law of keys: no two cells that there are at once have one.
-use Rattle.std.proofs.Common.{◌≡◌, ◌⊎◌, inl, inr, ℕ, zero, suc, ◌<◌, ◌≤◌, true, List, [], ◌∷◌, length, drop, slice_index, slice_index_or, refl, sym, ap, subst, ◌∙◌, arith}
+use Rattle.sound_blocks.proofs.Words.{◌≡◌, ◌⊎◌, inl, inr, ℕ, zero, suc, ◌<◌, ◌≤◌, true, List, [], ◌∷◌, length, drop, slice_index, slice_index_or, refl, sym}
+use Rattle.sound_blocks.proofs.Words.{ap, subst, ◌∙◌, arith, cases_Bool, is_start_op, key, s, is_op, is_right, is_call_op, row_shifts_left, Claim, claim_of}
+use Rattle.sound_blocks.proofs.Words.{IsEndRow, row_at, op_in, shifts_left_is, input, pushed, Chain, rank_of, IsBlock, open_at, below_at}
 use Rattle.std.specs.List.{All, AllPairs}
-use Rattle.std.proofs.lemmas.Bool.{cases_Bool}
 use Rattle.std.proofs.lemmas.List.Elements.{All-cons, All-drop, All-head, All-nil, All-tail}
-use Rattle.vm_ops.specs.Codes.{is_start_op}
 use Rattle.vm_ops.specs.declared.op.Op.TheVariants as ops
-use Rattle.vm_table.specs.MainColumns.{key, s}
-use Rattle.air_kit.specs.Flags.{is_op, is_right}
-use Rattle.air_kit.specs.MainTuples.{is_call_op, row_shifts_left}
-use Rattle.air_kit.specs.Places.{Claim}
-use Rattle.air_kit.specs.Traces.{claim_of}
-use Rattle.facts_main.specs.Blocks.{IsEndRow}
-use Rattle.vm_table.specs.Layout.{row_at}
-use Rattle.facts_main.specs.MainRows.{op_in}
-use Rattle.facts_main.proofs.RunFacts.{shifts_left_is}
-use Rattle.sound_buses.specs.Overflow.{input, pushed}
-use Rattle.sound_blocks.specs.Chains.{Chain, rank_of}
-use Rattle.sound_blocks.specs.Frames.{IsBlock, open_at}
 use Rattle.sound_blocks.specs.Keys.{AreApart, GrantedKeys, IsAlong, IsPast, behind, calls_among, clock, here, number, open_calls}
-use Rattle.sound_blocks.specs.Lists.{below_at}
 use Rattle.sound_blocks.proofs.Asides.{block_of, calls-call, calls-other, calls_same, open_end, open_same, open_start, returns_is}
 use Rattle.sound_blocks.proofs.Chains.{Entry, KeysDiffer, front_of, no_entry, same_entry}
 use Rattle.sound_blocks.proofs.Holds.{Known, before, differ_of, holds, moves_at, none_of, pushed_key, pushes_later}

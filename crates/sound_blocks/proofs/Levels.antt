@@ -1,18 +1,8 @@
 -- How many blocks are open before a row, and in which context it runs.
-use Rattle.std.proofs.Common.{◌≡◌, ℕ, suc, ◌^◌, ◌<◌, ◌≤◌, true, false, List, length, drop, sym, ap, ◌∙◌, subst, arith}
-use Rattle.vm_field.specs.Field.{felt_add, felt_sub}
-use Rattle.vm_ops.specs.Codes.{is_start_op}
-use Rattle.vm_ops.specs.declared.op.Op.{Op}
+use Rattle.sound_blocks.proofs.Words.{◌≡◌, ℕ, suc, ◌^◌, ◌<◌, ◌≤◌, true, false, List, length, drop, sym, ap, ◌∙◌, subst, arith, felt_add, felt_sub}
+use Rattle.sound_blocks.proofs.Words.{is_start_op, Op, lv, is_op, Claim, level_after, row_at, ShowsRows, op_in, BlockFacts, Closes, Starts, RangeFacts}
+use Rattle.sound_blocks.proofs.Words.{open_at}
 use Rattle.vm_ops.specs.declared.op.Op.TheVariants as ops
-use Rattle.vm_table.specs.MainColumns.{lv}
-use Rattle.air_kit.specs.Flags.{is_op}
-use Rattle.air_kit.specs.Places.{Claim}
-use Rattle.facts_main.specs.Blocks.{level_after}
-use Rattle.vm_table.specs.Layout.{row_at}
-use Rattle.facts_main.specs.MainRows.{ShowsRows, op_in}
-use Rattle.sound_buses.specs.Blocks.{BlockFacts, Closes, Starts}
-use Rattle.sound_buses.specs.Lookups.{RangeFacts}
-use Rattle.sound_blocks.specs.Frames.{open_at}
 use Rattle.sound_blocks.proofs.Operations.{Moves, moves_of}
 use Rattle.sound_blocks.proofs.Rows.{each_row}
 use Rattle.sound_blocks.proofs.OpenBlocks.{closes_newest, newest_at, open_at-end, open_at-first, open_at-keep, open_at-start}

@@ -29,3 +29,4 @@ pub mod Holds
 pub mod Outputs
 pub mod OverflowLaw
 pub mod Keys
+pub mod Words

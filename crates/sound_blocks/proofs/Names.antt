@@ -1,19 +1,8 @@
 -- Which block names a child that ends, and what comes behind the child's END.
-use Rattle.std.proofs.Common.{◌≡◌, ℕ, suc, ◌<◌, Bool, true, false, List, length, refl, sym, ap, ◌∙◌, subst}
-use Rattle.vm_ops.specs.Codes.{is_start_op}
-use Rattle.vm_ops.specs.declared.op.Op.{Op}
+use Rattle.sound_blocks.proofs.Words.{◌≡◌, ℕ, suc, ◌<◌, Bool, true, false, List, length, refl, sym, ap, ◌∙◌, subst, is_start_op, Op, addr, s, is_op, front}
+use Rattle.sound_blocks.proofs.Words.{back, called_digest, Claim, keeps_block, may_follow, row_at, ShowsRows, op_in, BlockFacts, Closes, IsAt, Starts, own}
+use Rattle.sound_blocks.proofs.Words.{ChildFacts, IsNamed, IsTurnOf, IsOnlyChild, TurnsAgain}
 use Rattle.vm_ops.specs.declared.op.Op.TheVariants as ops
-use Rattle.vm_table.specs.MainColumns.{addr, s}
-use Rattle.air_kit.specs.Flags.{is_op}
-use Rattle.air_kit.specs.MainTuples.{front, back, called_digest}
-use Rattle.air_kit.specs.Places.{Claim}
-use Rattle.facts_main.specs.Blocks.{keeps_block}
-use Rattle.facts_main.specs.Follows.{may_follow}
-use Rattle.vm_table.specs.Layout.{row_at}
-use Rattle.facts_main.specs.MainRows.{ShowsRows, op_in}
-use Rattle.sound_buses.specs.Blocks.{BlockFacts, Closes, IsAt, Starts, own}
-use Rattle.sound_buses.specs.Children.{ChildFacts, IsNamed, IsTurnOf}
-use Rattle.sound_blocks.specs.Nesting.{IsOnlyChild, TurnsAgain}
 use Rattle.sound_blocks.proofs.Operations.{BehindEnd, behind_end}
 use Rattle.sound_blocks.proofs.OpenBlocks.{no_zero}
 use Rattle.sound_blocks.proofs.Rows.{has_next, starts_at}

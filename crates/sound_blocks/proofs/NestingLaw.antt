@@ -1,12 +1,6 @@
 -- The law of nesting.
-use Rattle.std.proofs.Common.{ℕ, ◌<◌, List, length, arith}
+use Rattle.sound_blocks.proofs.Words.{ℕ, ◌<◌, List, length, arith, Claim, claim_of, ShowsRows, BlockFacts, ChildFacts, GrantedNesting, NestingFacts}
 use Rattle.vm_ops.specs.declared.op.Op.TheVariants as ops
-use Rattle.air_kit.specs.Places.{Claim}
-use Rattle.air_kit.specs.Traces.{claim_of}
-use Rattle.facts_main.specs.MainRows.{ShowsRows}
-use Rattle.sound_buses.specs.Blocks.{BlockFacts}
-use Rattle.sound_buses.specs.Children.{ChildFacts}
-use Rattle.sound_blocks.specs.Nesting.{GrantedNesting, NestingFacts}
 use Rattle.sound_blocks.proofs.Rows.{starts_at}
 use Rattle.sound_blocks.proofs.Names.{follows_at}
 use Rattle.sound_blocks.proofs.FirstChildren.{after_first, after_second}

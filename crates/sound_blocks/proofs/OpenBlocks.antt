@@ -1,14 +1,7 @@
 -- The blocks that are open before a row: the newest one is the one whose address the row has.
-use Rattle.std.proofs.Common.{◌≡◌, ℕ, suc, ◌<◌, ◌≤◌, true, false, List, [], ◌∷◌, length, drop, refl, sym, ap, ◌∙◌, subst, arith}
-use Rattle.vm_ops.specs.Codes.{is_start_op}
+use Rattle.sound_blocks.proofs.Words.{◌≡◌, ℕ, suc, ◌<◌, ◌≤◌, true, false, List, [], ◌∷◌, length, drop, refl, sym, ap, ◌∙◌, subst, arith, is_start_op, addr}
+use Rattle.sound_blocks.proofs.Words.{is_op, Claim, row_at, ShowsRows, op_in, BlockFacts, Closes, Starts, own, IsBlock, newest_address, open_at}
 use Rattle.vm_ops.specs.declared.op.Op.TheVariants as ops
-use Rattle.vm_table.specs.MainColumns.{addr}
-use Rattle.air_kit.specs.Flags.{is_op}
-use Rattle.air_kit.specs.Places.{Claim}
-use Rattle.vm_table.specs.Layout.{row_at}
-use Rattle.facts_main.specs.MainRows.{ShowsRows, op_in}
-use Rattle.sound_buses.specs.Blocks.{BlockFacts, Closes, Starts, own}
-use Rattle.sound_blocks.specs.Frames.{IsBlock, newest_address, open_at}
 use Rattle.sound_blocks.proofs.Operations.{Moves, moves_of, neither_is}
 use Rattle.sound_blocks.proofs.Rows.{each_row}
 

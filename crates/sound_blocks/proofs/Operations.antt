@@ -1,12 +1,7 @@
 -- What the tests of operations say, and which operation stands before a start.
-use Rattle.std.proofs.Common.{◌≡◌, ◌⊎◌, ℕ, Bool, true, false, ◌||◌, not, eqb, refl, ◌∙◌, inl, inr, arith}
-use Rattle.vm_ops.specs.Codes.{code_of, is_ordinary_op, is_start_op}
-use Rattle.vm_ops.specs.declared.op.Op.{Op}
+use Rattle.sound_blocks.proofs.Words.{◌≡◌, ◌⊎◌, ℕ, Bool, true, false, ◌||◌, not, eqb, refl, ◌∙◌, inl, inr, arith, code_of, is_ordinary_op, is_start_op, Op}
+use Rattle.sound_blocks.proofs.Words.{code_of-different, is_op, may_follow, never, off}
 use Rattle.vm_ops.specs.declared.op.Op.TheVariants as ops
-use Rattle.vm_ops.proofs.CodeLemmas.{code_of-different}
-use Rattle.air_kit.specs.Flags.{is_op}
-use Rattle.facts_main.specs.Follows.{may_follow}
-use Rattle.facts_main.proofs.Says.{never, off}
 
 same_code : (a b : ℕ) → eqb a b ≡ true → a ≡ b
 same_code a b is = grind arith

@@ -1,19 +1,8 @@
 -- The only child of a block, the turns of a loop, and the root.
-use Rattle.std.proofs.Common.{◌≡◌, ◌⊎◌, ℕ, suc, ◌<◌, Bool, true, false, cond, eqb, List, length, refl, sym, ap, ◌∙◌, inl, inr, subst}
-use Rattle.vm_ops.specs.Codes.{is_start_op}
-use Rattle.vm_ops.specs.declared.op.Op.{Op}
+use Rattle.sound_blocks.proofs.Words.{◌≡◌, ◌⊎◌, ℕ, suc, ◌<◌, Bool, true, false, cond, eqb, List, length, refl, sym, ap, ◌∙◌, inl, inr, subst, is_start_op, Op}
+use Rattle.sound_blocks.proofs.Words.{addr, s, is_op, front, Claim, row_at, ShowsRows, op_in, halts_last, never, off, BlockFacts, Closes, IsAt, Starts, own}
+use Rattle.sound_blocks.proofs.Words.{ChildFacts, IsTurnOf, IsOnlyChild, StartsInside, TurnsAgain}
 use Rattle.vm_ops.specs.declared.op.Op.TheVariants as ops
-use Rattle.vm_table.specs.MainColumns.{addr, s}
-use Rattle.air_kit.specs.Flags.{is_op}
-use Rattle.air_kit.specs.MainTuples.{front}
-use Rattle.air_kit.specs.Places.{Claim}
-use Rattle.vm_table.specs.Layout.{row_at}
-use Rattle.facts_main.specs.MainRows.{ShowsRows, op_in}
-use Rattle.facts_main.proofs.RunFacts.{halts_last}
-use Rattle.facts_main.proofs.Says.{never, off}
-use Rattle.sound_buses.specs.Blocks.{BlockFacts, Closes, IsAt, Starts, own}
-use Rattle.sound_buses.specs.Children.{ChildFacts, IsTurnOf}
-use Rattle.sound_blocks.specs.Nesting.{IsOnlyChild, StartsInside, TurnsAgain}
 use Rattle.sound_blocks.proofs.Operations.{BehindEnd, behind_end, op_named}
 use Rattle.sound_blocks.proofs.Rows.{starts_at}
 use Rattle.sound_blocks.proofs.OpenBlocks.{no_zero}

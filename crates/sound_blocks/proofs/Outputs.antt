@@ -1,16 +1,9 @@
 -- The cells that the last row has below the sixteenth are the outputs behind the sixteenth, along the table of cells left.
-use Rattle.std.proofs.Common.{◌≡◌, ℕ, zero, suc, ◌+◌, ◌<◌, List, [], ◌∷◌, ◌++◌, length, drop, slice_index, slice_index_or, slice_get, get_or, sym, ap, subst, ◌∙◌, arith, lit<}
-use Rattle.std.proofs.lemmas.List.{ext_get_or, get_or-drop}
+use Rattle.sound_blocks.proofs.Words.{◌≡◌, ℕ, zero, suc, ◌+◌, ◌<◌, List, [], ◌∷◌, ◌++◌, length, drop, slice_index, slice_index_or, slice_get, get_or, sym, ap}
+use Rattle.sound_blocks.proofs.Words.{subst, ◌∙◌, arith, lit<, ext_get_or, get_or-drop, drop-cons, s, deep_at_start, Claim, cells, OverflowFacts, Chain}
 use Rattle.std.proofs.lemmas.Option.{slice_get-get_or}
-use Rattle.std.proofs.Math.Seq.{drop-cons}
-use Rattle.vm_table.specs.MainColumns.{s}
 use Rattle.chip_columns.specs.LeftColumns as left
 use Rattle.air_kit.specs.ChipTuples.{next_key}
-use Rattle.air_kit.specs.DeepCells.{deep_at_start}
-use Rattle.air_kit.specs.Places.{Claim}
-use Rattle.air_kit.specs.StackValues.{cells}
-use Rattle.sound_buses.specs.Overflow.{OverflowFacts}
-use Rattle.sound_blocks.specs.Chains.{Chain}
 use Rattle.sound_blocks.proofs.Chains.{KeysDiffer, Front, front_of}
 
 -- the key of a row of the table of cells left

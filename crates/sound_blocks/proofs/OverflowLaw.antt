@@ -1,25 +1,10 @@
 -- The law of the cells below the sixteenth.
-use Rattle.std.proofs.Common.{◌≡◌, ◌≢◌, ℕ, suc, ◌+◌, ◌<◌, ◌≤◌, ◌^◌, true, List, [], ◌∷◌, ◌++◌, length, length-drop, drop, sym, ap, subst, ◌∙◌, arith}
-use Rattle.std.proofs.lemmas.List.{nil_from_length}
+use Rattle.sound_blocks.proofs.Words.{◌≡◌, ◌≢◌, ℕ, suc, ◌+◌, ◌<◌, ◌≤◌, ◌^◌, true, List, [], ◌∷◌, ◌++◌, length, length-drop, drop, sym, ap, subst, ◌∙◌, arith}
+use Rattle.sound_blocks.proofs.Words.{nil_from_length, s, depth, deep_at_start, depth_at_start, is_call_op, row_shifts_left, Claim, Overflow, cells, claim_of}
+use Rattle.sound_blocks.proofs.Words.{Public, Trace, row_at, op_in, Closes, Granted, FrameFacts, below_at, GrantedOverflow, Chain, GrantedChains}
 use Rattle.vm_field.specs.Limits.{most_inputs}
 use Rattle.vm_field.proofs.Elements.{elements-drop}
-use Rattle.vm_table.specs.MainColumns.{s, depth}
-use Rattle.air_kit.specs.DeepCells.{deep_at_start, depth_at_start}
-use Rattle.air_kit.specs.MainTuples.{is_call_op, row_shifts_left}
-use Rattle.air_kit.specs.Places.{Claim}
-use Rattle.air_kit.specs.RowStates.{Overflow}
-use Rattle.air_kit.specs.StackValues.{cells}
-use Rattle.air_kit.specs.Traces.{claim_of}
-use Rattle.air_kit.specs.declared.trace.Public.{Public}
-use Rattle.air_kit.specs.declared.trace.Trace.{Trace}
 use Rattle.facts_main.specs.Bounds.{IsLastRow}
-use Rattle.vm_table.specs.Layout.{row_at}
-use Rattle.facts_main.specs.MainRows.{op_in}
-use Rattle.sound_buses.specs.Blocks.{Closes}
-use Rattle.sound_buses.specs.BusFacts.{Granted}
-use Rattle.sound_blocks.specs.Frames.{FrameFacts}
-use Rattle.sound_blocks.specs.Lists.{below_at, GrantedOverflow}
-use Rattle.sound_blocks.specs.Chains.{Chain, GrantedChains}
 use Rattle.sound_blocks.proofs.Chains.{elements_of}
 use Rattle.sound_blocks.proofs.RowKinds.{behind_deeper, left_right_apart}
 use Rattle.sound_blocks.proofs.Asides.{returns_is}

@@ -1,10 +1,6 @@
 -- The ranks of keys.
-use Rattle.std.proofs.Common.{◌≡◌, ℕ, zero, suc, ◌+◌, ◌-◌, ◌<◌, ◌≤◌, ◌^◌, length, refl, ap, ◌∙◌, arith}
-use Rattle.vm_field.specs.Signs.{◌⊞◌}
-use Rattle.vm_field.specs.Field.{prime}
-use Rattle.air_kit.specs.DeepCells.{deep_at_start, input_key, input_keys, key_of}
-use Rattle.air_kit.specs.Places.{Claim}
-use Rattle.sound_blocks.specs.Chains.{rank_of}
+use Rattle.sound_blocks.proofs.Words.{◌≡◌, ℕ, zero, suc, ◌+◌, ◌-◌, ◌<◌, ◌≤◌, ◌^◌, length, refl, ap, ◌∙◌, arith, ◌⊞◌, prime, deep_at_start, input_key}
+use Rattle.sound_blocks.proofs.Words.{input_keys, key_of, Claim, rank_of}
 
 pub rank_none : (k : Claim) → rank_of k 0 ≡ 0
 unfolding rank_of

@@ -1,10 +1,6 @@
 -- One operation of a reading, by the digit that it takes.
-use Rattle.std.proofs.Common.{◌≡◌, ◌≢◌, ℕ, suc, ◌+◌, ◌*◌, ◌/◌, ◌%◌, ◌<◌, List, [], ◌∷◌, Some, ap, ap₂, ◌∙◌, arith, eqb}
-use Rattle.std.proofs.lemmas.Bool.{ne_eqb, cond-false}
-use Rattle.vm_ops.specs.Codes.{code_of}
-use Rattle.vm_ops.specs.Items.{plain_item, push_item}
-use Rattle.vm_ops.specs.declared.item.Item.{Item}
-use Rattle.vm_ops.specs.declared.op.Op.{Op}
+use Rattle.sound_blocks.proofs.Words.{◌≡◌, ◌≢◌, ℕ, suc, ◌+◌, ◌*◌, ◌/◌, ◌%◌, ◌<◌, List, [], ◌∷◌, Some, ap, ap₂, ◌∙◌, arith, eqb, ne_eqb, cond-false, code_of}
+use Rattle.sound_blocks.proofs.Words.{plain_item, push_item, Item, Op}
 use Rattle.op_pack.specs.Digits.{go_on, next_group}
 use Rattle.op_pack.specs.Reading.{before, plain_digit, read_on}
 use Rattle.op_pack.proofs.ReadLemmas.{read_on-plain, read_on-push}

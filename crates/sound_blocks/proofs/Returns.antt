@@ -1,18 +1,8 @@
 -- The END of a call brings back the cells of its start.
-use Rattle.std.proofs.Common.{◌≡◌, ℕ, zero, suc, ◌<◌, Bool, true, false, ◌&&◌, ◌||◌, cond, eqb, List, ◌∷◌, length, drop, refl, sym, ap, ◌∙◌, arith}
+use Rattle.sound_blocks.proofs.Words.{◌≡◌, ℕ, zero, suc, ◌<◌, Bool, true, false, ◌&&◌, ◌||◌, cond, eqb, List, ◌∷◌, length, drop, refl, sym, ap, ◌∙◌, arith, h}
+use Rattle.sound_blocks.proofs.Words.{s, deep_at_start, is_left, is_op, is_right, is_call_op, row_shifts_left, Claim, Overflow, overflow_at, overflow_behind}
+use Rattle.sound_blocks.proofs.Words.{brought_back, IsEndRow, row_at, ShowsRows, op_in, Closes, FrameFacts, IsBlock, open_at, below_at}
 use Rattle.vm_ops.specs.declared.op.Op.TheVariants as ops
-use Rattle.vm_table.specs.MainColumns.{h, s}
-use Rattle.air_kit.specs.DeepCells.{deep_at_start}
-use Rattle.air_kit.specs.Flags.{is_left, is_op, is_right}
-use Rattle.air_kit.specs.MainTuples.{is_call_op, row_shifts_left}
-use Rattle.air_kit.specs.Places.{Claim}
-use Rattle.air_kit.specs.RowStates.{Overflow, overflow_at, overflow_behind, brought_back}
-use Rattle.facts_main.specs.Blocks.{IsEndRow}
-use Rattle.vm_table.specs.Layout.{row_at}
-use Rattle.facts_main.specs.MainRows.{ShowsRows, op_in}
-use Rattle.sound_buses.specs.Blocks.{Closes}
-use Rattle.sound_blocks.specs.Frames.{FrameFacts, IsBlock, open_at}
-use Rattle.sound_blocks.specs.Lists.{below_at}
 use Rattle.sound_blocks.proofs.Asides.{asides, asides-call, asides-none, open_start, open_end, returns_is, block_of, asides_same}
 use Rattle.sound_blocks.proofs.RowKinds.{Movement, right, flat, deeper, calls, returns, keeps, kind_of, behind_right, behind_flat, behind_deeper, behind_call, behind_return, behind_same, right_apart, end_apart, call_starts, call_no_loop, no_end_returns, returns_ends, left_stays}
 

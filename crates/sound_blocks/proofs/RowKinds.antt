@@ -1,19 +1,12 @@
 -- What a row does to the cells below the sixteenth.
-use Rattle.std.proofs.Common.{◌≡◌, ◌≢◌, ◌⊎◌, inl, inr, ℕ, ◌+◌, ◌≤◌, Bool, true, false, ◌&&◌, ◌||◌, cond, eqb, List, [], ◌∷◌, drop, refl, ap, ◌∙◌, arith}
-use Rattle.std.proofs.lemmas.Bool.{cases_Bool, eqb-true, eq-eqb, ne_eqb, cond-true, cond-false, and_parts}
-use Rattle.vm_field.specs.Signs.{◌⊞◌}
-use Rattle.vm_ops.specs.Codes.{is_start_op}
-use Rattle.vm_ops.specs.declared.op.Op.{Op}
+use Rattle.sound_blocks.proofs.Words.{◌≡◌, ◌≢◌, ◌⊎◌, inl, inr, ℕ, ◌+◌, ◌≤◌, Bool, true, false, ◌&&◌, ◌||◌, cond, eqb, List, [], ◌∷◌, drop, refl, ap, ◌∙◌}
+use Rattle.sound_blocks.proofs.Words.{arith, cases_Bool, eqb-true, eq-eqb, ne_eqb, cond-true, cond-false, and_parts, ◌⊞◌, is_start_op, Op, h, s, depth}
+use Rattle.sound_blocks.proofs.Words.{is_left, is_op, is_right, is_shift, op_of, is_call_op, row_shifts_left, Overflow, overflow_behind, brought_back}
+use Rattle.sound_blocks.proofs.Words.{row_returns, IsEndRow, off}
 use Rattle.vm_ops.specs.declared.op.Op.TheVariants as ops
 use Rattle.vm_ops.specs.Moves.{shift_of}
 use Rattle.vm_ops.specs.declared.op.Shift.{Shift}
 use Rattle.vm_ops.specs.declared.op.Shift.TheVariants.{Left, Stay, Right}
-use Rattle.vm_table.specs.MainColumns.{h, s, depth}
-use Rattle.air_kit.specs.Flags.{is_left, is_op, is_right, is_shift, op_of}
-use Rattle.air_kit.specs.MainTuples.{is_call_op, row_shifts_left}
-use Rattle.air_kit.specs.RowStates.{Overflow, overflow_behind, brought_back, row_returns}
-use Rattle.facts_main.specs.Blocks.{IsEndRow}
-use Rattle.facts_main.proofs.Says.{off}
 
 pub data Movement (x : List ℕ) : Type 0 where
   right : is_right (op_of x) ≡ true → Movement x

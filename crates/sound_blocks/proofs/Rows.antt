@@ -1,11 +1,7 @@
 -- Rows of a table one behind the other: induction over them, and where the last one is.
-use Rattle.std.proofs.Common.{◌≡◌, ◌⊎◌, ℕ, zero, suc, ◌<◌, ◌≤◌, true, List, length, inl, inr, arith}
+use Rattle.sound_blocks.proofs.Words.{◌≡◌, ◌⊎◌, ℕ, zero, suc, ◌<◌, ◌≤◌, true, List, length, inl, inr, arith, is_start_op, is_op, Claim, ShowsRows, op_in}
+use Rattle.sound_blocks.proofs.Words.{Starts}
 use Rattle.vm_ops.specs.declared.op.Op.TheVariants as ops
-use Rattle.vm_ops.specs.Codes.{is_start_op}
-use Rattle.air_kit.specs.Flags.{is_op}
-use Rattle.air_kit.specs.Places.{Claim}
-use Rattle.facts_main.specs.MainRows.{ShowsRows, op_in}
-use Rattle.sound_buses.specs.Blocks.{Starts}
 use Rattle.sound_blocks.proofs.Operations.{start_no_halt}
 
 or_last : (i n : ℕ) → i < n → (suc i < n) ⊎ (suc i ≡ n)

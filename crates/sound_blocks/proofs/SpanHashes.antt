@@ -1,19 +1,8 @@
 -- What the END of a block shows of its hash.
-use Rattle.std.proofs.Common.{◌≡◌, ◌≢◌, inl, inr, lit<, ℕ, suc, ◌+◌, ◌%◌, ◌<◌, cond, eqb, List, [], ◌∷◌, refl, sym, ap, subst, ◌∙◌}
-use Rattle.std.proofs.lemmas.Bool.{cases_Bool, eq-eqb, cond-true, cond-false}
-use Rattle.vm_field.specs.Signs.{◌⊞◌}
-use Rattle.vm_ops.specs.declared.op.Op.{Op}
+use Rattle.sound_blocks.proofs.Words.{◌≡◌, ◌≢◌, inl, inr, lit<, ℕ, suc, ◌+◌, ◌%◌, ◌<◌, cond, eqb, List, [], ◌∷◌, refl, sym, ap, subst, ◌∙◌, cases_Bool}
+use Rattle.sound_blocks.proofs.Words.{eq-eqb, cond-true, cond-false, ◌⊞◌, Op, addr, h, ha, is_op, domain_of, eight, front, hash_end, Claim, GivesOn, row_at}
+use Rattle.sound_blocks.proofs.Words.{ShowsRows, op_in, Starts, Closes, own, HashFacts, hasher_gives, IsHashedAt}
 use Rattle.vm_ops.specs.declared.op.Op.TheVariants as ops
-use Rattle.vm_table.specs.MainColumns.{addr, h, ha}
-use Rattle.air_kit.specs.Flags.{is_op}
-use Rattle.air_kit.specs.MainTuples.{domain_of, eight, front, hash_end}
-use Rattle.air_kit.specs.Places.{Claim}
-use Rattle.facts_hasher.specs.HashMeaning.{GivesOn}
-use Rattle.vm_table.specs.Layout.{row_at}
-use Rattle.facts_main.specs.MainRows.{ShowsRows, op_in}
-use Rattle.sound_buses.specs.Blocks.{Starts, Closes, own}
-use Rattle.sound_buses.specs.Lookups.{HashFacts, hasher_gives}
-use Rattle.sound_blocks.specs.Spans.{IsHashedAt}
 use Rattle.sound_blocks.proofs.Tests.{op_same}
 use Rattle.sound_blocks.proofs.Addresses.{address_of_block, last_row}
 

@@ -1,19 +1,10 @@
 -- The law of spans.
-use Rattle.std.proofs.Common.{◌≡◌, ℕ, ◌+◌, ◌%◌, ◌≤◌, cond, List, ◌∷◌, length, ap, subst, ◌∙◌, arith}
-use Rattle.vm_ops.specs.Codes.{is_start_op}
+use Rattle.sound_blocks.proofs.Words.{◌≡◌, ℕ, ◌+◌, ◌%◌, ◌≤◌, cond, List, ◌∷◌, length, ap, subst, ◌∙◌, arith, is_start_op, addr, h, is_op, domain_of, eight}
+use Rattle.sound_blocks.proofs.Words.{front, is_batch_op, claim_of, GivesOn, hasher_gives, row_at, batch_at, IsAt, Starts, Closes, own, AreBatches}
+use Rattle.sound_blocks.proofs.Words.{IsHashedAt, GrantedSpans}
 use Rattle.vm_ops.specs.declared.op.Op.TheVariants as ops
-use Rattle.vm_table.specs.MainColumns.{addr, h}
 use Rattle.rpo_hash.specs.Constants.{constants_of}
 use Rattle.block_tree.specs.Trees.{input_of_batches}
-use Rattle.air_kit.specs.Flags.{is_op}
-use Rattle.air_kit.specs.MainTuples.{domain_of, eight, front, is_batch_op}
-use Rattle.air_kit.specs.Traces.{claim_of}
-use Rattle.facts_hasher.specs.HashMeaning.{GivesOn}
-use Rattle.sound_buses.specs.Lookups.{hasher_gives}
-use Rattle.vm_table.specs.Layout.{row_at}
-use Rattle.sound_buses.specs.Batches.{batch_at}
-use Rattle.sound_buses.specs.Blocks.{IsAt, Starts, Closes, own}
-use Rattle.sound_blocks.specs.Spans.{AreBatches, IsHashedAt, GrantedSpans}
 use Rattle.sound_blocks.proofs.SpanRows.{Known, HasBatches, batches}
 use Rattle.sound_blocks.proofs.SpanHashes.{address_is, hashed_at, block_hashed}
 

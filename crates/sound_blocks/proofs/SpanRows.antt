@@ -1,19 +1,9 @@
 -- The batches of a span, one behind the other, and its END.
-use Rattle.std.proofs.Common.{◌≡◌, inl, inr, lit<, ℕ, zero, suc, ◌+◌, ◌%◌, ◌<◌, ◌≤◌, List, [], ◌∷◌, length, sym, ap, ◌∙◌, arith}
-use Rattle.vm_field.specs.Signs.{◌⊞◌}
+use Rattle.sound_blocks.proofs.Words.{◌≡◌, inl, inr, lit<, ℕ, zero, suc, ◌+◌, ◌%◌, ◌<◌, ◌≤◌, List, [], ◌∷◌, length, sym, ap, ◌∙◌, arith, ◌⊞◌, addr, h, ha}
+use Rattle.sound_blocks.proofs.Words.{is_op, eight, front, hash_end, is_batch_op, Claim, GivesOn, keeps_block, row_at, ShowsRows, Begins, GroupFacts}
+use Rattle.sound_blocks.proofs.Words.{batch_at, BlockFacts, IsAt, HashFacts, hasher_gives, AreBatches, last}
 use Rattle.vm_ops.specs.declared.op.Op.TheVariants as ops
-use Rattle.vm_table.specs.MainColumns.{addr, h, ha}
-use Rattle.air_kit.specs.Flags.{is_op}
-use Rattle.air_kit.specs.MainTuples.{eight, front, hash_end, is_batch_op}
-use Rattle.air_kit.specs.Places.{Claim}
-use Rattle.facts_hasher.specs.HashMeaning.{GivesOn}
-use Rattle.facts_main.specs.Blocks.{keeps_block}
-use Rattle.vm_table.specs.Layout.{row_at}
-use Rattle.facts_main.specs.MainRows.{ShowsRows}
-use Rattle.sound_buses.specs.Batches.{Begins, GroupFacts, batch_at}
-use Rattle.sound_buses.specs.Blocks.{BlockFacts, IsAt}
-use Rattle.sound_buses.specs.Lookups.{HashFacts, hasher_gives}
-use Rattle.sound_blocks.specs.Spans.{AreBatches, last, more}
+use Rattle.sound_blocks.specs.Spans.{more}
 use Rattle.sound_blocks.proofs.Tests.{op_same, either_passes}
 use Rattle.sound_blocks.proofs.Addresses.{address_of_block, last_row, next_block}
 use Rattle.sound_blocks.proofs.BatchReads.{HasBatch, has_batch}

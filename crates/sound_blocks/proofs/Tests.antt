@@ -1,15 +1,8 @@
 -- What tests of operations tell.
-use Rattle.std.proofs.Common.{◌≡◌, ◌≢◌, ◌⊎◌, inl, inr, ℕ, ◌<◌, Bool, true, false, ◌||◌, refl, sym, ap, ◌∙◌, arith}
-use Rattle.std.proofs.lemmas.Bool.{cond-true, ltb-true, eqb-true, eq-eqb}
-use Rattle.vm_ops.specs.Codes.{code_of, is_ordinary_op}
-use Rattle.vm_ops.specs.declared.op.Op.{Op}
+use Rattle.sound_blocks.proofs.Words.{◌≡◌, ◌≢◌, ◌⊎◌, inl, inr, ℕ, ◌<◌, Bool, true, false, ◌||◌, refl, sym, ap, ◌∙◌, arith, cond-true, ltb-true, eqb-true}
+use Rattle.sound_blocks.proofs.Words.{eq-eqb, code_of, is_ordinary_op, Op, code_of-different, ordinary-below, is_op, is_batch_op, keeps_block, may_follow}
+use Rattle.sound_blocks.proofs.Words.{off, never}
 use Rattle.vm_ops.specs.declared.op.Op.TheVariants as ops
-use Rattle.vm_ops.proofs.CodeLemmas.{code_of-different, ordinary-below}
-use Rattle.air_kit.specs.Flags.{is_op}
-use Rattle.air_kit.specs.MainTuples.{is_batch_op}
-use Rattle.facts_main.specs.Blocks.{keeps_block}
-use Rattle.facts_main.specs.Follows.{may_follow}
-use Rattle.facts_main.proofs.Says.{off, never}
 
 pub op_same : (a b : Op) → is_op a b ≡ true → a ≡ b
 op_same a b is = code_of-different a b (eqb-true (code_of a) (code_of b) is)

@@ -1,16 +1,12 @@
 -- On each bus of an accepted trace, what the main table's rows and the small tables' ask and give.
-use Rattle.std.proofs.Common.{◌≡◌, ℕ, ◌+◌, ◌≤◌, List, [], ◌∷◌, ◌++◌, arith}
-use Rattle.buses.specs.Counts.{counted, once, over_rows, with_next}
+use Rattle.sound_buses.proofs.Words.{◌≡◌, ℕ, ◌+◌, ◌≤◌, List, [], ◌∷◌, ◌++◌, arith, counted, once, over_rows, with_next, counted-none, chip_given}
+use Rattle.sound_buses.proofs.Words.{kernel_given, left_asked, memory_ranges, range_given, bitwise_asked, blocks_asked, blocks_given, children_asked}
+use Rattle.sound_buses.proofs.Words.{children_given, groups_asked, groups_given, hasher_asked, kernel_asked, loops_asked, loops_given, memory_asked}
+use Rattle.sound_buses.proofs.Words.{overflow_asked, overflow_given, range_asked, claim_of, Public, Trace}
 use Rattle.buses.specs.declared.bus.Bus.TheVariants as bus
-use Rattle.buses.proofs.Counting.{counted-none}
 use Rattle.air_kit.specs.Acceptance.{IsAccepted, asked_on, given_on}
-use Rattle.air_kit.specs.ChipTuples.{chip_given, kernel_given, left_asked, memory_ranges, range_given}
 use Rattle.air_kit.specs.DeepCells.{tuples_at_start}
-use Rattle.air_kit.specs.MainTuples.{bitwise_asked, blocks_asked, blocks_given, children_asked, children_given, groups_asked, groups_given, hasher_asked, kernel_asked, loops_asked, loops_given, memory_asked, overflow_asked, overflow_given, range_asked}
-use Rattle.air_kit.specs.Traces.{claim_of}
-use Rattle.air_kit.specs.declared.trace.Public.{Public}
 use Rattle.air_kit.specs.declared.trace.TableName.TheVariants as table
-use Rattle.air_kit.specs.declared.trace.Trace.{Trace}
 use Rattle.sound_buses.proofs.RowSums.{PairTuples, pairs_none, rows_none}
 
 -- so often the rows count it

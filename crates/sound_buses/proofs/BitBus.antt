@@ -1,14 +1,9 @@
 -- U32AND and U32XOR take numbers of 32 bits and leave what the bitwise table gives.
-use Rattle.std.proofs.Common.{◌≡◌, ℕ, suc, ◌<◌, List, [], ◌∷◌, length, refl, arith}
-use Rattle.buses.specs.Counts.{once, over_rows, with_next}
+use Rattle.sound_buses.proofs.Words.{◌≡◌, ℕ, suc, ◌<◌, List, [], ◌∷◌, length, refl, arith, once, over_rows, with_next, s, op_of, bitwise_asked, row_at}
+use Rattle.sound_buses.proofs.Words.{BitFacts}
 use Rattle.vm_ops.specs.declared.op.Op.TheVariants as ops
-use Rattle.vm_table.specs.MainColumns.{s}
-use Rattle.air_kit.specs.Flags.{op_of}
-use Rattle.air_kit.specs.MainTuples.{bitwise_asked}
 use Rattle.facts_bitwise.specs.BitTables.{IsBitwise, BitwiseIsZero, given_in}
 use Rattle.facts_bitwise.proofs.TableLaws.{means}
-use Rattle.vm_table.specs.Layout.{row_at}
-use Rattle.sound_buses.specs.Lookups.{BitFacts}
 use Rattle.sound_buses.proofs.RowSums.{row_has, rows_have}
 
 -- the tuple of an operation of this kind

@@ -1,16 +1,9 @@
 -- Each END is that of one block, which has no other END.
-use Rattle.std.proofs.Common.{◌≡◌, ℕ, suc, ◌<◌, ◌≤◌, Bool, true, ◌==◌, cond, List, [], ◌∷◌, slice_index, refl, sym, ap, subst, ◌∙◌, arith}
-use Rattle.buses.specs.Counts.{counted, once, over_rows, with_next}
-use Rattle.vm_field.specs.Field.{felt_add}
-use Rattle.vm_ops.specs.Codes.{is_start_op}
+use Rattle.sound_buses.proofs.Words.{◌≡◌, ℕ, suc, ◌<◌, ◌≤◌, Bool, true, ◌==◌, cond, List, [], ◌∷◌, slice_index, refl, sym, ap, subst, ◌∙◌, arith, counted}
+use Rattle.sound_buses.proofs.Words.{once, over_rows, with_next, felt_add, is_start_op, addr, h, s, is_op, op_of, blocks_asked, blocks_given, frame_cells}
+use Rattle.sound_buses.proofs.Words.{is_call_op, kind_of_end, kind_of_start, no_frame, Claim, row_at, ShowsRows, op_in, BlockFacts, Closes, IsAt, ShowsKind}
+use Rattle.sound_buses.proofs.Words.{Starts, own}
 use Rattle.vm_ops.specs.declared.op.Op.TheVariants as ops
-use Rattle.vm_table.specs.MainColumns.{addr, h, s}
-use Rattle.air_kit.specs.Flags.{is_op, op_of}
-use Rattle.air_kit.specs.MainTuples.{blocks_asked, blocks_given, frame_cells, is_call_op, kind_of_end, kind_of_start, no_frame}
-use Rattle.air_kit.specs.Places.{Claim}
-use Rattle.vm_table.specs.Layout.{row_at}
-use Rattle.facts_main.specs.MainRows.{ShowsRows, op_in}
-use Rattle.sound_buses.specs.Blocks.{BlockFacts, Closes, IsAt, ShowsKind, Starts, own}
 use Rattle.sound_buses.proofs.BlockKinds.{call_flagged, flags_of_end, kind_shown}
 use Rattle.sound_buses.proofs.RowSums.{IsInRow, count_in, rows_have, rows_one, rows_same, rows_some}
 use Rattle.sound_buses.proofs.Tuples.{single_self, tested_few, tested_is}

@@ -1,14 +1,8 @@
 -- The four flags of an END, from the kind of the block that its tuple names.
-use Rattle.std.proofs.Common.{◌≡◌, ℕ, zero, suc, ◌+◌, ◌*◌, ◌<◌, ◌≤◌, true, ◌||◌, ◌==◌, List, refl, sym, ◌∙◌, arith}
-use Rattle.vm_field.specs.Field.{felt_add, felt_mul}
-use Rattle.vm_ops.specs.Codes.{is_start_op}
-use Rattle.vm_ops.specs.declared.op.Op.{Op}
+use Rattle.sound_buses.proofs.Words.{◌≡◌, ℕ, zero, suc, ◌+◌, ◌*◌, ◌<◌, ◌≤◌, true, ◌||◌, ◌==◌, List, refl, sym, ◌∙◌, arith, felt_add, felt_mul, is_start_op}
+use Rattle.sound_buses.proofs.Words.{Op, h, s, is_op, is_call_op, kind_of_end, kind_of_start, ShowsKind}
 use Rattle.vm_ops.specs.declared.op.Op.TheVariants as ops
-use Rattle.vm_table.specs.MainColumns.{h, s}
-use Rattle.air_kit.specs.Flags.{is_op}
-use Rattle.air_kit.specs.MainTuples.{is_call_op, kind_of_end, kind_of_start}
 use Rattle.facts_main.specs.Blocks.{IsEndRow}
-use Rattle.sound_buses.specs.Blocks.{ShowsKind}
 use Rattle.sound_buses.proofs.Splits.{off}
 
 -- flags of which at most one is set

@@ -1,7 +1,7 @@
 -- The place of a tuple among those of cells with their keys, and the input that a tuple of the start is.
-use Rattle.std.proofs.Common.{◌≡◌, ℕ, suc, ◌+◌, ◌-◌, ◌<◌, ⊎_elim, List, [], ◌∷◌, drop, length, slice_index, sym, ap, subst, ◌∙◌, arith}
+use Rattle.sound_buses.proofs.Words.{◌≡◌, ℕ, suc, ◌+◌, ◌-◌, ◌<◌, ⊎_elim, List, [], ◌∷◌, drop, length, slice_index, sym, ap, subst, ◌∙◌, arith, counted, hits}
+use Rattle.sound_buses.proofs.Words.{once}
 use Rattle.std.proofs.lemmas.List.{get_or-drop}
-use Rattle.buses.specs.Counts.{counted, hits, once}
 use Rattle.air_kit.specs.DeepCells.{cell_tuples, input_key, input_keys, key_of, keys_at_start}
 use Rattle.air_kit.proofs.InputKeys.{input_keys_at, input_keys_drop, input_keys_length}
 use Rattle.sound_buses.specs.Overflow.{IsInput}

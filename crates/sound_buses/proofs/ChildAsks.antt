@@ -1,13 +1,7 @@
 -- What an END asks on the bus of children, and what a row gives there.
-use Rattle.std.proofs.Common.{◌≡◌, ℕ, suc, ◌<◌, true, List, [], ◌∷◌, refl, ap, ◌∙◌, arith}
-use Rattle.buses.specs.Counts.{counted, once}
-use Rattle.vm_ops.specs.Codes.{is_start_op}
+use Rattle.sound_buses.proofs.Words.{◌≡◌, ℕ, suc, ◌<◌, true, List, [], ◌∷◌, refl, ap, ◌∙◌, arith, counted, once, is_start_op, addr, h, is_op, op_of}
+use Rattle.sound_buses.proofs.Words.{children_asked, children_given, children_of, front, row_at, IsAt}
 use Rattle.vm_ops.specs.declared.op.Op.TheVariants as ops
-use Rattle.vm_table.specs.MainColumns.{addr, h}
-use Rattle.air_kit.specs.Flags.{is_op, op_of}
-use Rattle.air_kit.specs.MainTuples.{children_asked, children_given, children_of, front}
-use Rattle.vm_table.specs.Layout.{row_at}
-use Rattle.sound_buses.specs.Blocks.{IsAt}
 use Rattle.sound_buses.proofs.ChildTuples.{bit_of, child_tuple}
 use Rattle.sound_buses.proofs.RowSums.{IsInRow, count_in}
 use Rattle.sound_buses.proofs.Tuples.{single_self, tested_is}

@@ -1,14 +1,7 @@
 -- Each child that ends is named: by the statement, or by a row.
-use Rattle.std.proofs.Common.{◌≡◌, ℕ, suc, ◌+◌, ◌<◌, ⊎_elim, Bool, true, false, List, [], ◌∷◌, refl, sym, subst, arith}
-use Rattle.buses.specs.Counts.{counted, once, over_rows, with_next}
-use Rattle.vm_ops.specs.Codes.{is_start_op}
+use Rattle.sound_buses.proofs.Words.{◌≡◌, ℕ, suc, ◌+◌, ◌<◌, ⊎_elim, Bool, true, false, List, [], ◌∷◌, refl, sym, subst, arith, counted, once, over_rows}
+use Rattle.sound_buses.proofs.Words.{with_next, is_start_op, addr, h, children_asked, children_given, front, Claim, row_at, ShowsRows, op_in, IsAt}
 use Rattle.vm_ops.specs.declared.op.Op.TheVariants as ops
-use Rattle.vm_table.specs.MainColumns.{addr, h}
-use Rattle.air_kit.specs.MainTuples.{children_asked, children_given, front}
-use Rattle.air_kit.specs.Places.{Claim}
-use Rattle.vm_table.specs.Layout.{row_at}
-use Rattle.facts_main.specs.MainRows.{ShowsRows, op_in}
-use Rattle.sound_buses.specs.Blocks.{IsAt}
 use Rattle.sound_buses.specs.Children.{IsNamed, statement}
 use Rattle.sound_buses.proofs.ChildAsks.{asked_by, asks, given_of}
 use Rattle.sound_buses.proofs.ChildTuples.{bit_of, child_tuple, named_by, same_child}

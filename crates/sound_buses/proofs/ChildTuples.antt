@@ -1,15 +1,8 @@
 -- The tuples of children: which row gives which.
-use Rattle.std.proofs.Common.{◌≡◌, ℕ, suc, ◌<◌, ◌≤◌, ◌⊎◌, inl, inr, ⊎_elim, Bool, true, false, ◌||◌, ◌==◌, cond, ap₂, List, [], ◌∷◌, ◌++◌, length, refl, sym, ap, subst, ◌∙◌, arith}
-use Rattle.std.proofs.lemmas.Bool.{eqb-true}
-use Rattle.buses.specs.Counts.{Counted, counted, hits}
-use Rattle.vm_ops.specs.declared.op.Op.{Op}
+use Rattle.sound_buses.proofs.Words.{◌≡◌, ℕ, suc, ◌<◌, ◌≤◌, ◌⊎◌, inl, inr, ⊎_elim, Bool, true, false, ◌||◌, ◌==◌, cond, ap₂, List, [], ◌∷◌, ◌++◌, length}
+use Rattle.sound_buses.proofs.Words.{refl, sym, ap, subst, ◌∙◌, arith, eqb-true, Counted, counted, hits, Op, addr, s, is_op, back, called_digest, child}
+use Rattle.sound_buses.proofs.Words.{children_of, front, row_at, op_in, IsAt, own}
 use Rattle.vm_ops.specs.declared.op.Op.TheVariants as ops
-use Rattle.vm_table.specs.MainColumns.{addr, s}
-use Rattle.air_kit.specs.Flags.{is_op}
-use Rattle.air_kit.specs.MainTuples.{back, called_digest, child, children_of, front}
-use Rattle.vm_table.specs.Layout.{row_at}
-use Rattle.facts_main.specs.MainRows.{op_in}
-use Rattle.sound_buses.specs.Blocks.{IsAt, own}
 use Rattle.sound_buses.specs.Children.{IsNamed, first, second, on_one, on_zero, body, callee, kernel, target, turn}
 use Rattle.sound_buses.proofs.Splits.{positive_part, zero_or}
 use Rattle.sound_buses.proofs.Tuples.{hit_is, hit_self, more_counts, nothing_counts, single_is, tested_is}

@@ -1,26 +1,15 @@
 -- An accepted trace grants what its buses say.
-use Rattle.std.proofs.Common.{◌≡◌, ℕ, ◌^◌, ◌<◌, ◌≤◌, List, length, arith}
+use Rattle.sound_buses.proofs.Words.{◌≡◌, ℕ, ◌^◌, ◌<◌, ◌≤◌, List, length, arith, prime, clk, v, Claim, claim_of, Public, Trace, TableGives, row_at, ShowsRows}
+use Rattle.sound_buses.proofs.Words.{Starts, own, hasher_gives}
 use Rattle.vm_field.specs.Limits.{number_of_constants}
-use Rattle.vm_field.specs.Field.{prime}
-use Rattle.vm_table.specs.MainColumns.{clk}
-use Rattle.chip_columns.specs.RangeColumns.{v}
 use Rattle.rpo_hash.specs.Constants.{constants_of}
 use Rattle.air_kit.specs.Acceptance.{IsAccepted}
-use Rattle.air_kit.specs.Places.{Claim}
-use Rattle.air_kit.specs.Traces.{claim_of}
-use Rattle.air_kit.specs.declared.trace.Public.{Public}
 use Rattle.air_kit.specs.declared.trace.TableName.TheVariants as table
-use Rattle.air_kit.specs.declared.trace.Trace.{Trace}
-use Rattle.facts_hasher.specs.HashMeaning.{TableGives}
 use Rattle.facts_hasher.proofs.TableMeaning.{table_gives}
 use Rattle.facts_memory.proofs.MainServes.{main_serves}
-use Rattle.vm_table.specs.Layout.{row_at}
-use Rattle.facts_main.specs.MainRows.{ShowsRows}
 use Rattle.facts_main.proofs.ClaimFacts.{trace_shown}
 use Rattle.facts_main.proofs.RunFacts.{clock_is}
-use Rattle.sound_buses.specs.Blocks.{Starts, own}
 use Rattle.sound_buses.specs.BusFacts.{Granted, HasTables}
-use Rattle.sound_buses.specs.Lookups.{hasher_gives}
 use Rattle.sound_buses.proofs.Balance.{bits_alike, blocks_alike, children_alike, groups_alike, hasher_alike, kernel_alike, limbs_alike, loops_alike, memory_alike, overflow_alike, range_alike}
 use Rattle.sound_buses.proofs.BitBus.{bit_facts}
 use Rattle.sound_buses.proofs.BlockBus.{block_facts}

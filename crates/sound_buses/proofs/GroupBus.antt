@@ -1,14 +1,8 @@
 -- Where the groups and the immediates of a batch come from.
-use Rattle.std.proofs.Common.{◌≡◌, ℕ, suc, ◌+◌, ◌<◌, ◌⊎◌, ⊎_elim, inl, inr, Bool, true, false, ◌||◌, List, [], ◌∷◌, length, refl, sym, ap, subst, ◌∙◌, arith}
-use Rattle.buses.specs.Counts.{counted, once, over_rows, with_next}
-use Rattle.vm_ops.specs.Codes.{is_start_op}
+use Rattle.sound_buses.proofs.Words.{◌≡◌, ℕ, suc, ◌+◌, ◌<◌, ◌⊎◌, ⊎_elim, inl, inr, Bool, true, false, ◌||◌, List, [], ◌∷◌, length, refl, sym, ap, subst, ◌∙◌}
+use Rattle.sound_buses.proofs.Words.{arith, counted, once, over_rows, with_next, is_start_op, gc, h, ha, s, is_op, domain_of, eight, groups_asked}
+use Rattle.sound_buses.proofs.Words.{groups_given, positions, Claim, row_at, ShowsRows, op_in}
 use Rattle.vm_ops.specs.declared.op.Op.TheVariants as ops
-use Rattle.vm_table.specs.MainColumns.{gc, h, ha, s}
-use Rattle.air_kit.specs.Flags.{is_op}
-use Rattle.air_kit.specs.MainTuples.{domain_of, eight, groups_asked, groups_given, positions}
-use Rattle.air_kit.specs.Places.{Claim}
-use Rattle.vm_table.specs.Layout.{row_at}
-use Rattle.facts_main.specs.MainRows.{ShowsRows, op_in}
 use Rattle.sound_buses.specs.Batches.{Begins, GroupFacts, IsTaken, batch_at}
 use Rattle.sound_buses.proofs.GroupPlaces.{GivesGroup, all_are, gives, in_use, opens_asks, parts, push_asks}
 use Rattle.sound_buses.proofs.HasherBus.{Asks, respan_in, start_in}

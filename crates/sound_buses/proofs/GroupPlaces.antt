@@ -1,10 +1,7 @@
 -- The positions of a batch: what its row gives, and what a row asks of them.
-use Rattle.std.proofs.Common.{◌≡◌, ◌≢◌, ℕ, zero, suc, ◌+◌, ◌-◌, ◌<◌, ◌≤◌, ⊎_elim, Bool, true, false, cond, List, [], ◌∷◌, refl, arith}
-use Rattle.buses.specs.Counts.{counted, hits, once}
+use Rattle.sound_buses.proofs.Words.{◌≡◌, ◌≢◌, ℕ, zero, suc, ◌+◌, ◌-◌, ◌<◌, ◌≤◌, ⊎_elim, Bool, true, false, cond, List, [], ◌∷◌, refl, arith, counted, hits}
+use Rattle.sound_buses.proofs.Words.{once, gc, h, ha, s, is_op, op_of, groups_asked, groups_from, groups_given, is_batch_op, opens_group, positions}
 use Rattle.vm_ops.specs.declared.op.Op.TheVariants as ops
-use Rattle.vm_table.specs.MainColumns.{gc, h, ha, s}
-use Rattle.air_kit.specs.Flags.{is_op, op_of}
-use Rattle.air_kit.specs.MainTuples.{groups_asked, groups_from, groups_given, is_batch_op, opens_group, positions}
 use Rattle.sound_buses.proofs.Splits.{not_op, positive_part}
 use Rattle.sound_buses.proofs.Tuples.{hit_is, more_counts, nothing_counts}
 

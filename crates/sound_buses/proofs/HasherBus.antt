@@ -1,18 +1,9 @@
 -- What the rows ask on the hasher's bus is given, and one row alone asks at an address.
-use Rattle.std.proofs.Common.{◌≡◌, ℕ, suc, ◌+◌, ◌^◌, ◌<◌, ◌≤◌, true, List, [], ◌∷◌, length, refl, sym, subst, arith}
-use Rattle.buses.specs.Counts.{counted, once, over_rows, with_next}
-use Rattle.vm_field.specs.Field.{felt_add}
+use Rattle.sound_buses.proofs.Words.{◌≡◌, ℕ, suc, ◌+◌, ◌^◌, ◌<◌, ◌≤◌, true, List, [], ◌∷◌, length, refl, sym, subst, arith, counted, once, over_rows}
+use Rattle.sound_buses.proofs.Words.{with_next, felt_add, is_start_op, addr, ha, w, op_of, domain_of, eight, front, hash_end, hasher_asked, twelve}
+use Rattle.sound_buses.proofs.Words.{TableGives, row_at, op_in, IsAt, Starts, own, HashFacts, hasher_gives}
 use Rattle.vm_field.specs.Permutation.{permuted}
-use Rattle.vm_ops.specs.Codes.{is_start_op}
 use Rattle.vm_ops.specs.declared.op.Op.TheVariants as ops
-use Rattle.vm_table.specs.MainColumns.{addr, ha, w}
-use Rattle.air_kit.specs.Flags.{op_of}
-use Rattle.air_kit.specs.MainTuples.{domain_of, eight, front, hash_end, hasher_asked, twelve}
-use Rattle.facts_hasher.specs.HashMeaning.{TableGives}
-use Rattle.vm_table.specs.Layout.{row_at}
-use Rattle.facts_main.specs.MainRows.{op_in}
-use Rattle.sound_buses.specs.Blocks.{IsAt, Starts, own}
-use Rattle.sound_buses.specs.Lookups.{HashFacts, hasher_gives}
 use Rattle.sound_buses.proofs.RowSums.{IsInRow, row_has, rows_have, rows_same}
 use Rattle.sound_buses.proofs.Tuples.{hit_self, more_counts, single_self}
 

@@ -1,14 +1,8 @@
 -- The one first child of a join.
-use Rattle.std.proofs.Common.{◌≡◌, ℕ, suc, ◌+◌, ◌<◌, ◌≤◌, ⊎_elim, Bool, true, false, List, [], ◌∷◌, length, refl, sym, ap, subst, ◌∙◌, arith}
-use Rattle.buses.specs.Counts.{counted, once, over_rows, with_next}
-use Rattle.vm_ops.specs.Codes.{is_start_op}
+use Rattle.sound_buses.proofs.Words.{◌≡◌, ℕ, suc, ◌+◌, ◌<◌, ◌≤◌, ⊎_elim, Bool, true, false, List, [], ◌∷◌, length, refl, sym, ap, subst, ◌∙◌, arith, counted}
+use Rattle.sound_buses.proofs.Words.{once, over_rows, with_next, is_start_op, addr, h, is_op, children_asked, children_given, children_of, front, row_at}
+use Rattle.sound_buses.proofs.Words.{op_in, IsAt, Starts, own}
 use Rattle.vm_ops.specs.declared.op.Op.TheVariants as ops
-use Rattle.vm_table.specs.MainColumns.{addr, h}
-use Rattle.air_kit.specs.Flags.{is_op}
-use Rattle.air_kit.specs.MainTuples.{children_asked, children_given, children_of, front}
-use Rattle.vm_table.specs.Layout.{row_at}
-use Rattle.facts_main.specs.MainRows.{op_in}
-use Rattle.sound_buses.specs.Blocks.{IsAt, Starts, own}
 use Rattle.sound_buses.specs.Children.{EndsFirst, FirstChild}
 use Rattle.sound_buses.proofs.ChildAsks.{asked_is, asks, end_tuple, given_of}
 use Rattle.sound_buses.proofs.ChildTuples.{GivesFirst, SameChild, bit_of, child_tuple, first_few, gives_first, join_gives, same_child}

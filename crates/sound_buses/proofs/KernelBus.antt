@@ -1,23 +1,14 @@
 -- A syscall calls a function of the kernel: the kernel's table has the digests of the statement's list, in order.
-use Rattle.std.proofs.Common.{◌≡◌, ℕ, suc, ◌<◌, true, nat_eq, All, List, [], ◌∷◌, length, slice_index, slice_index_or, refl, sym, ap, subst, ◌∙◌, arith, lit<}
+use Rattle.sound_buses.proofs.Words.{◌≡◌, ℕ, suc, ◌<◌, true, nat_eq, All, List, [], ◌∷◌, length, slice_index, slice_index_or, refl, sym, ap, subst, ◌∙◌}
+use Rattle.sound_buses.proofs.Words.{arith, lit<, counted, once, over_rows, with_next, felt_sub, same_from_sub, IsTable, row_at, kernel_given, op_of, front}
+use Rattle.sound_buses.proofs.Words.{kernel_asked, Claim, at_number, spot_of, numbers_zero, zero_family, KernelFacts}
 use Rattle.std.proofs.lemmas.List.Folds.{list_any_at}
 use lib.Pointwise.{bytes_decides, pointwise}
-use Rattle.buses.specs.Counts.{counted, once, over_rows, with_next}
-use Rattle.vm_field.specs.Field.{felt_sub}
 use Rattle.vm_field.specs.Machine.{IsWord}
-use Rattle.vm_field.proofs.Algebra.{same_from_sub}
 use Rattle.vm_field.proofs.Elements.{elements-index, word-is}
 use Rattle.vm_ops.specs.declared.op.Op.TheVariants as ops
-use Rattle.vm_table.specs.Layout.{IsTable, row_at}
 use Rattle.chip_columns.specs.KernelColumns as kernel
-use Rattle.air_kit.specs.ChipTuples.{kernel_given}
-use Rattle.air_kit.specs.Flags.{op_of}
 use Rattle.air_kit.specs.KernelValues.{kernel_values}
-use Rattle.air_kit.specs.MainTuples.{front, kernel_asked}
-use Rattle.air_kit.specs.Places.{Claim, at_number}
-use Rattle.air_kit.specs.Traces.{spot_of}
-use Rattle.facts_main.proofs.Zeros.{numbers_zero, zero_family}
-use Rattle.sound_buses.specs.Lookups.{KernelFacts}
 use Rattle.sound_buses.proofs.RowSums.{IsInRow, count_in, rows_have}
 use Rattle.sound_buses.proofs.TableSums.{IsInTable, table_some}
 use Rattle.sound_buses.proofs.Tuples.{single_is, single_self}

@@ -22,3 +22,4 @@ pub mod RangeBus
 pub mod BitBus
 pub mod MemoryLimbs
 pub mod Grants
+pub mod Words

@@ -1,13 +1,7 @@
 -- The loop that a turn belongs to.
-use Rattle.std.proofs.Common.{◌≡◌, ℕ, suc, ◌<◌, true, List, [], ◌∷◌, refl, ap, ◌∙◌, arith}
-use Rattle.buses.specs.Counts.{counted, once, over_rows, with_next}
+use Rattle.sound_buses.proofs.Words.{◌≡◌, ℕ, suc, ◌<◌, true, List, [], ◌∷◌, refl, ap, ◌∙◌, arith, counted, once, over_rows, with_next, addr, w, is_op, op_of}
+use Rattle.sound_buses.proofs.Words.{front, loops_asked, loops_given, row_at, op_in, IsAt, own}
 use Rattle.vm_ops.specs.declared.op.Op.TheVariants as ops
-use Rattle.vm_table.specs.MainColumns.{addr, w}
-use Rattle.air_kit.specs.Flags.{is_op, op_of}
-use Rattle.air_kit.specs.MainTuples.{front, loops_asked, loops_given}
-use Rattle.vm_table.specs.Layout.{row_at}
-use Rattle.facts_main.specs.MainRows.{op_in}
-use Rattle.sound_buses.specs.Blocks.{IsAt, own}
 use Rattle.sound_buses.specs.Children.{IsTurnOf}
 use Rattle.sound_buses.proofs.RowSums.{IsInRow, count_in, rows_have, rows_some}
 use Rattle.sound_buses.proofs.Splits.{op_from}

@@ -1,11 +1,8 @@
 -- The limbs of memory's rows have 16 bits: the range table gives them.
-use Rattle.std.proofs.Common.{ℕ, ◌^◌, ◌<◌, ◌≤◌, List, [], ◌∷◌, length, arith}
-use Rattle.buses.specs.Counts.{Counted, counted, once, over_rows}
+use Rattle.sound_buses.proofs.Words.{ℕ, ◌^◌, ◌<◌, ◌≤◌, List, [], ◌∷◌, length, arith, Counted, counted, once, over_rows, memory_ranges, range_given, row_at}
 use Rattle.chip_columns.specs.MemoryColumns as memory
 use Rattle.chip_columns.specs.RangeColumns as range
-use Rattle.air_kit.specs.ChipTuples.{memory_ranges, range_given}
 use Rattle.facts_memory.specs.MemoryTables.{HaveLimbs}
-use Rattle.vm_table.specs.Layout.{row_at}
 use Rattle.sound_buses.proofs.RangeBus.{given_short}
 use Rattle.sound_buses.proofs.TableSums.{table_has}
 use Rattle.sound_buses.proofs.Tuples.{hit_self, more_counts}

@@ -1,16 +1,9 @@
 -- Where the cells come from that a stack has below the sixteenth.
-use Rattle.std.proofs.Common.{◌≡◌, ◌≢◌, ℕ, suc, ◌+◌, ◌<◌, ⊎_elim, Bool, true, false, ◌==◌, cond, List, [], ◌∷◌, length, slice_index, slice_index_or, refl, sym, ap, subst, ◌∙◌, arith}
-use Rattle.std.specs.List.{slice_get}
-use Rattle.buses.specs.Counts.{at_row, counted, once, over_rows, with_next}
-use Rattle.vm_table.specs.MainColumns.{clk, depth, key, s}
+use Rattle.sound_buses.proofs.Words.{◌≡◌, ◌≢◌, ℕ, suc, ◌+◌, ◌<◌, ⊎_elim, Bool, true, false, ◌==◌, cond, List, [], ◌∷◌, length, slice_index, slice_index_or}
+use Rattle.sound_buses.proofs.Words.{refl, sym, ap, subst, ◌∙◌, arith, slice_get, at_row, counted, once, over_rows, with_next, clk, depth, key, s, left_asked}
+use Rattle.sound_buses.proofs.Words.{next_key, is_right, op_of, overflow_asked, overflow_given, row_shifts_left, Claim, row_at, op_in}
 use Rattle.chip_columns.specs.LeftColumns as left
-use Rattle.air_kit.specs.ChipTuples.{left_asked, next_key}
 use Rattle.air_kit.specs.DeepCells.{deep_at_start, tuples_at_start}
-use Rattle.air_kit.specs.Flags.{is_right, op_of}
-use Rattle.air_kit.specs.MainTuples.{overflow_asked, overflow_given, row_shifts_left}
-use Rattle.air_kit.specs.Places.{Claim}
-use Rattle.vm_table.specs.Layout.{row_at}
-use Rattle.facts_main.specs.MainRows.{op_in}
 use Rattle.sound_buses.specs.Overflow.{IsEntry, IsPushed, OverflowFacts, input, pushed}
 use Rattle.sound_buses.proofs.CellTuples.{input_of, parts}
 use Rattle.sound_buses.proofs.RowSums.{IsInRow, count_in, rows_have, rows_some}

@@ -1,19 +1,9 @@
 -- Limbs have 16 bits, and so has the number of blocks that may still be nested in one that starts.
-use Rattle.std.proofs.Common.{◌≡◌, ℕ, zero, suc, ◌+◌, ◌^◌, ◌<◌, ◌≤◌, ◌⊎◌, ⊎_elim, true, false, List, [], ◌∷◌, length, refl, sym, ap, subst, arith}
-use Rattle.buses.specs.Counts.{counted, hits, once, over_rows, with_next}
-use Rattle.vm_field.specs.Field.{felt_sub}
-use Rattle.vm_ops.specs.Codes.{is_start_op}
-use Rattle.vm_ops.specs.declared.op.Op.{Op}
+use Rattle.sound_buses.proofs.Words.{◌≡◌, ℕ, zero, suc, ◌+◌, ◌^◌, ◌<◌, ◌≤◌, ◌⊎◌, ⊎_elim, true, false, List, [], ◌∷◌, length, refl, sym, ap, subst, arith}
+use Rattle.sound_buses.proofs.Words.{counted, hits, once, over_rows, with_next, felt_sub, is_start_op, Op, lv, t, range_given, op_of, limbs_from}
+use Rattle.sound_buses.proofs.Words.{count_of_limbs, range_asked, row_at, op_in, Starts, RangeFacts}
 use Rattle.vm_ops.specs.declared.op.Op.TheVariants as ops
-use Rattle.vm_table.specs.MainColumns.{lv, t}
 use Rattle.chip_columns.specs.RangeColumns as range
-use Rattle.air_kit.specs.ChipTuples.{range_given}
-use Rattle.air_kit.specs.Flags.{op_of}
-use Rattle.air_kit.specs.MainTuples.{limbs_from, count_of_limbs, range_asked}
-use Rattle.vm_table.specs.Layout.{row_at}
-use Rattle.facts_main.specs.MainRows.{op_in}
-use Rattle.sound_buses.specs.Blocks.{Starts}
-use Rattle.sound_buses.specs.Lookups.{RangeFacts}
 use Rattle.sound_buses.proofs.RowSums.{IsInRow, rows_have}
 use Rattle.sound_buses.proofs.TableSums.{IsInTable, table_some}
 use Rattle.sound_buses.proofs.Tuples.{hit_self, more_counts, single_is, single_self}

@@ -1,16 +1,9 @@
 -- The values of the range table: from 0 to 65535, none less than the one before.
-use Rattle.std.proofs.Common.{◌≡◌, ℕ, zero, suc, ◌+◌, ◌-◌, ◌*◌, ◌^◌, ◌%◌, ◌<◌, ◌≤◌, ◌⊎◌, inl, inr, ⊎_elim, List, [], length, slice_index, Some, sym, ap, ◌∙◌, arith}
-use Rattle.std.specs.List.{slice_get}
-use Rattle.std.proofs.lemmas.Option.{slice_get-get_or, slice_get_past}
-use Rattle.vm_field.specs.Field.{prime, felt_sub, felt_mul}
-use Rattle.vm_field.proofs.Algebra.{same_from_sub, zero_factor}
-use Rattle.vm_table.specs.Layout.{IsTable, row_at}
-use Rattle.chip_columns.specs.RangeColumns.{v}
-use Rattle.air_kit.specs.Places.{at_number}
+use Rattle.sound_buses.proofs.Words.{◌≡◌, ℕ, zero, suc, ◌+◌, ◌-◌, ◌*◌, ◌^◌, ◌%◌, ◌<◌, ◌≤◌, ◌⊎◌, inl, inr, ⊎_elim, List, [], length, slice_index, Some, sym}
+use Rattle.sound_buses.proofs.Words.{ap, ◌∙◌, arith, slice_get, slice_get-get_or, slice_get_past, prime, felt_sub, felt_mul, same_from_sub, zero_factor}
+use Rattle.sound_buses.proofs.Words.{IsTable, row_at, v, at_number, spot_of, numbers_zero}
 use Rattle.air_kit.specs.ChipPlaces.{in_last, paired}
 use Rattle.air_kit.specs.RangeValues.{range_step, range_values}
-use Rattle.air_kit.specs.Traces.{spot_of}
-use Rattle.facts_main.proofs.Zeros.{numbers_zero}
 
 -- ---- one step
 

@@ -1,10 +1,6 @@
 -- How often a tuple counts over the rows of a table, where a row's tuples need the row behind it.
-use Rattle.std.proofs.Common.{◌≡◌, ◌≢◌, ℕ, suc, ◌<◌, ◌≤◌, ◌⊎◌, inl, inr, List, [], ◌∷◌, length, Some, None, ap, ◌∙◌, arith}
-use Rattle.std.proofs.lemmas.Option.{slice_get-get_or, slice_get_past}
-use Rattle.std.specs.List.{slice_get}
-use Rattle.buses.specs.Counts.{Counted, at_row, counted, once, over_first, over_rows, with_next}
-use Rattle.buses.proofs.Counting.{counted-none}
-use Rattle.vm_table.specs.Layout.{row_at}
+use Rattle.sound_buses.proofs.Words.{◌≡◌, ◌≢◌, ℕ, suc, ◌<◌, ◌≤◌, ◌⊎◌, inl, inr, List, [], ◌∷◌, length, Some, None, ap, ◌∙◌, arith, slice_get-get_or}
+use Rattle.sound_buses.proofs.Words.{slice_get_past, slice_get, Counted, at_row, counted, once, over_first, over_rows, with_next, counted-none, row_at}
 use Rattle.sound_buses.proofs.Splits.{same_or}
 use Rattle.sound_buses.proofs.Sums.{SomeBelow, total_apart, total_none, total_one, total_some, total_term}
 use Rattle.sound_buses.proofs.Tuples.{single_self}

@@ -1,10 +1,6 @@
 -- Cases of numbers, of tests on numbers and on operations.
-use Rattle.std.proofs.Common.{◌≡◌, ◌≢◌, ℕ, ◌+◌, ◌<◌, ◌⊎◌, inl, inr, true, false, ◌==◌, arith}
-use Rattle.std.proofs.lemmas.Bool.{cases_Bool, eqb-true}
-use Rattle.vm_ops.specs.Codes.{code_of}
-use Rattle.vm_ops.specs.declared.op.Op.{Op}
+use Rattle.sound_buses.proofs.Words.{◌≡◌, ◌≢◌, ℕ, ◌+◌, ◌<◌, ◌⊎◌, inl, inr, true, false, ◌==◌, arith, cases_Bool, eqb-true, code_of, Op, is_op}
 use Rattle.vm_ops.proofs.CodeLemmas.{code_of-different}
-use Rattle.air_kit.specs.Flags.{is_op}
 
 -- nothing is both
 pub off : {A : Type 0} → false ≡ true → A

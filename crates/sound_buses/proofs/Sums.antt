@@ -1,6 +1,5 @@
 -- Sums of a function over the numbers below a bound.
-use Rattle.std.proofs.Common.{◌≡◌, ◌≢◌, ℕ, zero, suc, ◌+◌, ◌<◌, ◌≤◌, ◌⊎◌, inl, inr, ⊎_elim, refl, ap, arith}
-use Rattle.buses.specs.Counts.{total}
+use Rattle.sound_buses.proofs.Words.{◌≡◌, ◌≢◌, ℕ, zero, suc, ◌+◌, ◌<◌, ◌≤◌, ◌⊎◌, inl, inr, ⊎_elim, refl, ap, arith, total}
 use Rattle.sound_buses.proofs.Splits.{less_or, positive_part, zero_or}
 
 -- a number below the bound at which the function is positive

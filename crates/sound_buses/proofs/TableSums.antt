@@ -1,6 +1,5 @@
 -- How often a tuple counts over the rows of a small table.
-use Rattle.std.proofs.Common.{ℕ, ◌<◌, List, length, arith}
-use Rattle.buses.specs.Counts.{OfRow, at_row, counted, over_first, over_rows}
+use Rattle.sound_buses.proofs.Words.{ℕ, ◌<◌, List, length, arith, OfRow, at_row, counted, over_first, over_rows}
 use Rattle.sound_buses.proofs.Sums.{SomeBelow, total_some, total_term}
 
 -- a row in which the tuple counts

@@ -1,8 +1,7 @@
 -- How often a tuple counts in the lists of a row: in a list of one tuple, and where a test passes.
-use Rattle.std.proofs.Common.{◌≡◌, ℕ, ◌+◌, ◌<◌, ◌≤◌, Bool, true, false, cond, nat_eq, List, [], ◌∷◌, refl, ap, arith}
+use Rattle.sound_buses.proofs.Words.{◌≡◌, ℕ, ◌+◌, ◌<◌, ◌≤◌, Bool, true, false, cond, nat_eq, List, [], ◌∷◌, refl, ap, arith, Counted, counted, hits, once}
+use Rattle.sound_buses.proofs.Words.{counted-none}
 use lib.Pointwise.{bytes_decides, pointwise}
-use Rattle.buses.specs.Counts.{Counted, counted, hits, once}
-use Rattle.buses.proofs.Counting.{counted-none}
 
 -- a tuple that hits is the one counted
 pub hit_is : (t : List ℕ) (count : ℕ) (u : List ℕ) → 0 < hits t count u → t ≡ u

@@ -1,29 +1,11 @@
 -- The blocks that the walk finds, kind by kind: where their children start, and the tree.
-use Rattle.std.proofs.Common.{◌≡◌, ◌≢◌, ℕ, suc, ◌+◌, ◌^◌, ◌<◌, Bool, true, false, ◌||◌, eqb, List, [], length, refl, sym, ap, ◌∙◌, subst, arith, add-one}
-use Rattle.std.proofs.Math.Path.{subst₂}
-use Rattle.vm_ops.specs.declared.op.Op.{Op}
+use Rattle.sound_evidence.proofs.Words.{◌≡◌, ◌≢◌, ℕ, suc, ◌+◌, ◌^◌, ◌<◌, Bool, true, false, ◌||◌, eqb, List, [], length, refl, sym, ap, ◌∙◌, subst, arith}
+use Rattle.sound_evidence.proofs.Words.{add-one, subst₂, Op, s, constants_of, is_op, back, called_digest, front, taken_by, Public, Trace, row_at, op_in}
+use Rattle.sound_evidence.proofs.Words.{never, Closes, IsAt, Starts, own, Built, HasTree, built_closes, placed_of, PlacedTree, PlacedTargets, AddrTree}
+use Rattle.sound_evidence.proofs.Words.{IsFound, IsWalkable, Takes, Found}
 use Rattle.vm_ops.specs.declared.op.Op.TheVariants as ops
-use Rattle.vm_table.specs.MainColumns.{s}
-use Rattle.rpo_hash.specs.Constants.{constants_of}
-use Rattle.air_kit.specs.Flags.{is_op}
-use Rattle.air_kit.specs.MainTuples.{back, called_digest, front}
-use Rattle.air_kit.specs.RowStates.{taken_by}
-use Rattle.air_kit.specs.declared.trace.Public.{Public}
-use Rattle.air_kit.specs.declared.trace.Trace.{Trace}
-use Rattle.vm_table.specs.Layout.{row_at}
-use Rattle.facts_main.specs.MainRows.{op_in}
-use Rattle.facts_main.proofs.Says.{never}
-use Rattle.sound_buses.specs.Blocks.{Closes, IsAt, Starts, own}
 use Rattle.sound_blocks.specs.Nesting.{IsOnlyChild, StartsInside}
-use Rattle.sound_runs.specs.Built.{Built}
-use Rattle.sound_runs.specs.TreeFacts.{HasTree}
-use Rattle.sound_runs.proofs.TreeRuns.{built_closes}
-use Rattle.tree_merge.specs.AddrView.{placed_of}
 use Rattle.tree_merge.specs.Placed as placed
-use Rattle.tree_merge.specs.Placed.{PlacedTree, PlacedTargets}
-use Rattle.tree_merge.specs.declared.addr_tree.AddrTree.{AddrTree}
-use Rattle.sound_evidence.specs.Walking.{IsFound, IsWalkable, Takes}
-use Rattle.sound_evidence.specs.declared.found.Found.{Found}
 use Rattle.sound_evidence.proofs.ReadRows.{own_small}
 use Rattle.sound_evidence.proofs.Takings.{joined, row_rests}
 

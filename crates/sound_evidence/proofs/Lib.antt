@@ -8,3 +8,4 @@ pub mod BlockFound
 pub mod TurnsFound
 pub mod Readable
 pub mod Runs
+pub mod Words

@@ -1,14 +1,10 @@
 -- Which operations of a span the walk has to look at, and which bits a row with one of them cannot have.
-use Rattle.std.proofs.Common.{◌≡◌, ◌≢◌, ℕ, ◌+◌, ◌*◌, ◌<◌, Bool, true, false, not, eqb, List, Option, Some, None, unwrap_or, refl, sym, ◌∙◌, arith, lit<}
+use Rattle.sound_evidence.proofs.Words.{◌≡◌, ◌≢◌, ℕ, ◌+◌, ◌*◌, ◌<◌, Bool, true, false, not, eqb, List, Option, Some, None, unwrap_or, refl, sym, ◌∙◌, arith}
+use Rattle.sound_evidence.proofs.Words.{lit<, Op, b, is_op, HasBits, taken_by, off, marked_of}
 use Rattle.vm_ops.specs.Codes.{code_of, op_at}
-use Rattle.vm_ops.specs.declared.op.Op.{Op}
 use Rattle.vm_ops.specs.declared.op.Op.TheVariants as ops
 use Rattle.vm_ops.proofs.CodeLemmas.{code_of-op_at}
-use Rattle.vm_table.specs.MainColumns.{b}
-use Rattle.air_kit.specs.Flags.{is_op, op_of, spelled, HasBits}
-use Rattle.air_kit.specs.RowStates.{taken_by}
-use Rattle.facts_main.proofs.Says.{off}
-use Rattle.sound_evidence.specs.Walking.{marked_of}
+use Rattle.air_kit.specs.Flags.{op_of, spelled}
 
 pub marked_end : (op : Op) → is_op (marked_of op) ops.End ≡ is_op op ops.End
 marked_end ops.End = refl

@@ -1,23 +1,13 @@
 -- What the walk needs of a row to read it.
-use Rattle.std.proofs.Common.{◌≡◌, ◌⊎◌, ℕ, ◌^◌, ◌<◌, ◌≤◌, true, false, List, length, Some, sym, ap, ◌∙◌, inl, inr, subst, arith}
+use Rattle.sound_evidence.proofs.Words.{◌≡◌, ◌⊎◌, ℕ, ◌^◌, ◌<◌, ◌≤◌, true, false, List, length, Some, sym, ap, ◌∙◌, inl, inr, subst, arith, input_of_batches}
+use Rattle.sound_evidence.proofs.Words.{constants_of, is_op, HasBits, computation_at, Public, Trace, row_at, op_in, never, Closes, own, op_named}
+use Rattle.sound_evidence.proofs.Words.{true_or_false, CountsAreReadable, IsWalkable}
 use Rattle.vm_field.specs.Sponge.{HashInput}
 use Rattle.vm_ops.specs.declared.op.Op.TheVariants as ops
-use Rattle.block_tree.specs.Trees.{input_of_batches}
-use Rattle.rpo_hash.specs.Constants.{constants_of}
-use Rattle.air_kit.specs.Flags.{is_op, HasBits}
-use Rattle.air_kit.specs.Hashes.{computation_at}
-use Rattle.air_kit.specs.declared.trace.Public.{Public}
 use Rattle.air_kit.specs.declared.trace.TableName.TheVariants as table
-use Rattle.air_kit.specs.declared.trace.Trace.{Trace}
-use Rattle.vm_table.specs.Layout.{row_at}
-use Rattle.facts_main.specs.MainRows.{op_in}
-use Rattle.facts_main.proofs.Says.{never}
-use Rattle.sound_buses.specs.Blocks.{Closes, own}
-use Rattle.sound_blocks.proofs.Operations.{op_named, true_or_false}
 use Rattle.sound_blocks.specs.Spans.{AreBatches, IsHashedAt}
 use Rattle.tree_merge.specs.FirstBlocks.{HasBlock, HasFirst}
 use Rattle.tree_merge.proofs.FirstBlockLemmas.{stands}
-use Rattle.sound_evidence.specs.Walking.{CountsAreReadable, IsWalkable}
 
 pub bits_at : (p : Public) (t : Trace) → IsWalkable p t → (i : ℕ) → i < length t.main → HasBits (row_at t.main i)
 bits_at p t readable i within = (readable.facts.shows.row_is i within).reads.has.bits

@@ -1,21 +1,13 @@
 -- What an accepted trace shows, put together from the laws of buses, frames, nesting and spans.
-use Rattle.std.proofs.Common.{◌≡◌, length}
+use Rattle.sound_evidence.proofs.Words.{◌≡◌, length, constants_of, IsTable, HasCounts, claim_of, Public, Trace, TreeFacts, IsWalkable, IsKnown}
 use Rattle.vm_field.specs.Limits.{number_of_constants}
-use Rattle.rpo_hash.specs.Constants.{constants_of}
-use Rattle.vm_table.specs.Layout.{IsTable}
 use Rattle.air_kit.specs.Acceptance.{IsAccepted}
-use Rattle.air_kit.specs.Traces.{HasCounts, claim_of}
-use Rattle.air_kit.specs.declared.trace.Public.{Public}
-use Rattle.air_kit.specs.declared.trace.Trace.{Trace}
 use Rattle.air_kit.specs.declared.trace.TableName.TheVariants as table
 use Rattle.sound_buses.specs.BusFacts.{Granted}
 use Rattle.sound_buses.proofs.Grants.{accepted_grants}
 use Rattle.sound_blocks.proofs.FrameLaw.{frames_granted}
 use Rattle.sound_blocks.proofs.NestingLaw.{nesting_granted}
 use Rattle.sound_blocks.proofs.SpanLaw.{span_law}
-use Rattle.sound_runs.specs.TreeFacts.{TreeFacts}
-use Rattle.sound_evidence.specs.Walking.{IsWalkable}
-use Rattle.sound_evidence.specs.Known.{IsKnown}
 
 pub known_of : (p : Public) (t : Trace) → length (constants_of p.params) ≡ number_of_constants → HasCounts t → IsTable 65 t.main → IsTable 2 t.range
     → IsTable 15 t.hasher → IsTable 12 t.bitwise → IsTable 14 t.memory → IsTable 5 t.kernel → IsTable 1 t.left → IsAccepted p t

@@ -1,27 +1,16 @@
 -- The tree that was found is that of the run that the rows show.
-use Rattle.std.proofs.Common.{◌≡◌, ℕ, suc, ◌-◌, ◌≤◌, arith, List, length, refl, sym, subst}
+use Rattle.sound_evidence.proofs.Words.{◌≡◌, ℕ, suc, ◌-◌, ◌≤◌, arith, List, length, refl, sym, subst, constants_of, state_at, tape_of, claim_of, Public}
+use Rattle.sound_evidence.proofs.Words.{Trace, built_good, trees_run, IsWholeTree, Found, placed_of, plain, IsKnown}
 use Rattle.vm_field.specs.Machine.{State}
-use Rattle.rpo_hash.specs.Constants.{constants_of}
 use Rattle.block_tree.specs.Execution.{Done, execution}
 use Rattle.block_tree.proofs.Refinement.{refines-refl}
 use Rattle.air_kit.specs.DeepCells.{deep_at_start}
-use Rattle.air_kit.specs.RowStates.{state_at, tape_of}
-use Rattle.air_kit.specs.Traces.{claim_of}
-use Rattle.air_kit.specs.declared.trace.Public.{Public}
 use Rattle.air_kit.specs.declared.trace.TableName.TheVariants as table
-use Rattle.air_kit.specs.declared.trace.Trace.{Trace}
 use Rattle.sound_runs.specs.Running.{Goes, ShowRun}
-use Rattle.sound_runs.proofs.TreeLemmas.{built_good}
-use Rattle.sound_runs.proofs.TreeRuns.{trees_run}
 use Rattle.sound_runs.specs.Ends.{EndFacts}
 use Rattle.sound_runs.proofs.CyclesLaw.{cycles_law, ends_law}
-use Rattle.sound_evidence.specs.Walking.{IsWholeTree}
-use Rattle.sound_evidence.specs.declared.found.Found.{Found}
-use Rattle.tree_merge.specs.AddrView.{placed_of}
 use Rattle.tree_merge.specs.AddrEvidences.{IsAddrRun}
 use Rattle.tree_merge.specs.Evidences.{IsRun}
-use Rattle.tree_merge.specs.Placed.{plain}
-use Rattle.sound_evidence.specs.Known.{IsKnown}
 use Rattle.sound_evidence.proofs.Readable.{granted, tree_facts}
 
 -- the states along the rows

@@ -1,22 +1,10 @@
 -- The steps of the walk through a span.
-use Rattle.std.proofs.Common.{◌≡◌, ℕ, suc, ◌+◌, ◌^◌, ◌<◌, Bool, true, false, cond, List, [], ◌∷◌, ◌++◌, length, sym, ap, ◌∙◌, subst, arith}
-use Rattle.vm_ops.specs.declared.op.Op.{Op}
+use Rattle.sound_evidence.proofs.Words.{◌≡◌, ℕ, suc, ◌+◌, ◌^◌, ◌<◌, Bool, true, false, cond, List, [], ◌∷◌, ◌++◌, length, sym, ap, ◌∙◌, subst, arith, Op}
+use Rattle.sound_evidence.proofs.Words.{constants_of, is_op, computation_at, eight, taken_by, Public, Trace, row_at, op_in, IsAt, own, op_named, Built}
+use Rattle.sound_evidence.proofs.Words.{IsFound, IsWalkable, Takes, marked_of}
 use Rattle.vm_ops.specs.declared.op.Op.TheVariants as ops
-use Rattle.rpo_hash.specs.Constants.{constants_of}
-use Rattle.air_kit.specs.Flags.{is_op}
-use Rattle.air_kit.specs.Hashes.{computation_at}
-use Rattle.air_kit.specs.MainTuples.{eight}
-use Rattle.air_kit.specs.RowStates.{taken_by}
-use Rattle.air_kit.specs.declared.trace.Public.{Public}
-use Rattle.air_kit.specs.declared.trace.Trace.{Trace}
-use Rattle.vm_table.specs.Layout.{row_at}
-use Rattle.facts_main.specs.MainRows.{op_in}
-use Rattle.sound_buses.specs.Blocks.{IsAt, own}
-use Rattle.sound_blocks.proofs.Operations.{op_named}
-use Rattle.sound_runs.specs.Built.{Built}
 use Rattle.tree_merge.specs.Placed as placed
 use Rattle.tree_merge.specs.declared.addr_tree.AddrTree.TheVariants as tree
-use Rattle.sound_evidence.specs.Walking.{IsFound, IsWalkable, Takes, marked_of}
 use Rattle.sound_evidence.proofs.Marks.{marked_end, marked_respan, marked_takes}
 use Rattle.sound_evidence.proofs.ReadRows.{own_small}
 use Rattle.sound_evidence.proofs.Spanning.{Spanned, Spanning, span_begins, span_ends, span_goes_on, stands_in_table}

@@ -1,17 +1,9 @@
 -- How far the rows of a span have been read.
-use Rattle.std.proofs.Common.{◌≡◌, ℕ, suc, ◌+◌, ◌<◌, true, false, cond, List, [], ◌∷◌, ◌++◌, length, refl, sym, ap, ◌∙◌, subst, add-one, append_assoc}
-use Rattle.std.proofs.lemmas.List.{append-nil}
+use Rattle.sound_evidence.proofs.Words.{◌≡◌, ℕ, suc, ◌+◌, ◌<◌, true, false, cond, List, [], ◌∷◌, ◌++◌, length, refl, sym, ap, ◌∙◌, subst, add-one}
+use Rattle.sound_evidence.proofs.Words.{append_assoc, append-nil, Op, input_of_batches, is_op, eight, row_at, op_in, never, off, Closes, IsAt}
 use Rattle.vm_ops.specs.Codes.{is_ordinary_op}
 use Rattle.vm_ops.specs.declared.item.Item.{Item}
-use Rattle.vm_ops.specs.declared.op.Op.{Op}
 use Rattle.vm_ops.specs.declared.op.Op.TheVariants as ops
-use Rattle.block_tree.specs.Trees.{input_of_batches}
-use Rattle.air_kit.specs.Flags.{is_op}
-use Rattle.air_kit.specs.MainTuples.{eight}
-use Rattle.vm_table.specs.Layout.{row_at}
-use Rattle.facts_main.specs.MainRows.{op_in}
-use Rattle.facts_main.proofs.Says.{never, off}
-use Rattle.sound_buses.specs.Blocks.{Closes, IsAt}
 use Rattle.sound_blocks.specs.Items.{AreItems}
 use Rattle.sound_blocks.specs.Spans.{AreBatches, IsHashedAt, SpanFacts}
 

@@ -1,13 +1,7 @@
 -- What rows take from the tape, one behind the other.
-use Rattle.std.proofs.Common.{◌≡◌, ℕ, suc, ◌+◌, ◌<◌, ◌≤◌, arith, List, [], ◌∷◌, ◌++◌, drop, length, refl, sym, ap, ◌∙◌, add-one, append_assoc}
-use Rattle.std.proofs.lemmas.List.{append-nil, length-drop}
-use Rattle.vm_ops.specs.declared.op.Op.{Op}
-use Rattle.air_kit.specs.RowStates.{taken_by, tape_of}
-use Rattle.vm_table.specs.Layout.{row_at}
-use Rattle.facts_main.specs.MainRows.{op_in}
-use Rattle.sound_buses.specs.Blocks.{IsAt}
+use Rattle.sound_evidence.proofs.Words.{◌≡◌, ℕ, suc, ◌+◌, ◌<◌, ◌≤◌, arith, List, [], ◌∷◌, ◌++◌, drop, length, refl, sym, ap, ◌∙◌, add-one, append_assoc}
+use Rattle.sound_evidence.proofs.Words.{append-nil, length-drop, Op, taken_by, tape_of, row_at, op_in, IsAt, Takes}
 use Rattle.facts_steps.proofs.Places.{tape_goes}
-use Rattle.sound_evidence.specs.Walking.{Takes}
 
 pub four : (t : List ℕ) (a b c d : ℕ) → (((t ++ a ∷ []) ++ b ∷ []) ++ c ∷ []) ++ d ∷ [] ≡ t ++ (a ∷ b ∷ c ∷ d ∷ [])
 four [] a b c d = refl

@@ -1,17 +1,6 @@
 -- How far the turns of a loop have been read.
-use Rattle.std.proofs.Common.{◌≡◌, ℕ, suc, ◌<◌}
-use Rattle.rpo_hash.specs.Constants.{constants_of}
-use Rattle.block_tree.specs.Trees.{Refines}
-use Rattle.vm_table.specs.MainColumns.{addr}
-use Rattle.air_kit.specs.Hashes.{computation_at}
-use Rattle.air_kit.specs.MainTuples.{front}
-use Rattle.air_kit.specs.declared.trace.Public.{Public}
-use Rattle.air_kit.specs.declared.trace.Trace.{Trace}
-use Rattle.vm_table.specs.Layout.{row_at}
-use Rattle.sound_buses.specs.Blocks.{Starts, own}
-use Rattle.sound_runs.specs.Built.{Turns}
-use Rattle.tree_merge.specs.Placed.{PlacedTree, placed_digest, plain}
-use Rattle.tree_merge.specs.Merging.{Good}
+use Rattle.sound_evidence.proofs.Words.{◌≡◌, ℕ, suc, ◌<◌, constants_of, Refines, addr, computation_at, front, Public, Trace, row_at, Starts, own, Turns}
+use Rattle.sound_evidence.proofs.Words.{PlacedTree, placed_digest, plain, Good}
 
 -- The next turn of the loop that starts in row i begins in row a, and this tree refines the tree of each turn so far.
 pub record Turning (p : Public) (t : Trace) (i a : ℕ) (body : PlacedTree) : Type 0 where

@@ -1,30 +1,12 @@
 -- The turns of a loop that the walk finds, and the whole tree.
-use Rattle.std.proofs.Common.{◌≡◌, ◌⊎◌, ℕ, suc, ◌+◌, ◌^◌, ◌<◌, Bool, true, false, List, length, refl, sym, ap, ◌∙◌, inl, inr, subst, arith, add-one}
-use Rattle.vm_ops.specs.declared.op.Op.{Op}
+use Rattle.sound_evidence.proofs.Words.{◌≡◌, ◌⊎◌, ℕ, suc, ◌+◌, ◌^◌, ◌<◌, Bool, true, false, List, length, refl, sym, ap, ◌∙◌, inl, inr, subst, arith, add-one}
+use Rattle.sound_evidence.proofs.Words.{Op, s, subst₂, constants_of, is_op, HasBits, computation_at, front, Public, Trace, row_at, op_in, never, Closes, IsAt}
+use Rattle.sound_evidence.proofs.Words.{own, Built, Turns, built_digest, built_good, placed_of, Good, Merged, Mergeable, PlacedTree, placed_digest, AddrTree}
+use Rattle.sound_evidence.proofs.Words.{IsFound, IsWalkable, IsWholeTree, Takes, Found}
 use Rattle.vm_ops.specs.declared.op.Op.TheVariants as ops
-use Rattle.vm_table.specs.MainColumns.{s}
-use Rattle.std.proofs.Math.Path.{subst₂}
 use Rattle.block_tree.proofs.Refinement.{refines-digest, refines-trans}
-use Rattle.rpo_hash.specs.Constants.{constants_of}
-use Rattle.air_kit.specs.Flags.{is_op, HasBits}
-use Rattle.air_kit.specs.Hashes.{computation_at}
-use Rattle.air_kit.specs.MainTuples.{front}
-use Rattle.air_kit.specs.declared.trace.Public.{Public}
-use Rattle.air_kit.specs.declared.trace.Trace.{Trace}
-use Rattle.vm_table.specs.Layout.{row_at}
-use Rattle.facts_main.specs.MainRows.{op_in}
-use Rattle.facts_main.proofs.Says.{never}
-use Rattle.sound_buses.specs.Blocks.{Closes, IsAt, own}
 use Rattle.sound_blocks.specs.Nesting.{StartsInside, TurnsAgain}
-use Rattle.sound_runs.specs.Built.{Built, Turns}
-use Rattle.sound_runs.proofs.TreeLemmas.{built_digest, built_good}
-use Rattle.tree_merge.specs.AddrView.{placed_of}
-use Rattle.tree_merge.specs.Merging.{Good, Merged, Mergeable}
 use Rattle.tree_merge.specs.Placed as placed
-use Rattle.tree_merge.specs.Placed.{PlacedTree, placed_digest}
-use Rattle.tree_merge.specs.declared.addr_tree.AddrTree.{AddrTree}
-use Rattle.sound_evidence.specs.Walking.{IsFound, IsWalkable, IsWholeTree, Takes}
-use Rattle.sound_evidence.specs.declared.found.Found.{Found}
 use Rattle.sound_evidence.proofs.BlockFound.{as_found, found_closes}
 use Rattle.sound_evidence.proofs.ReadRows.{bits_at, own_small}
 use Rattle.sound_evidence.proofs.Takings.{joined, row_rests}

@@ -1,13 +1,6 @@
 -- The rows of a span have one reading as batches.
-use Rattle.std.proofs.Common.{◌≡◌, ℕ, suc, List, ◌∷◌, refl, sym, ap, ◌∙◌, subst}
-use Rattle.vm_ops.specs.declared.item.Item.{Item}
+use Rattle.sound_runs.proofs.Words.{◌≡◌, ℕ, suc, List, ◌∷◌, refl, sym, ap, ◌∙◌, subst, Item, eight, row_at, never, IsAt, AreItems, AreBatches, HasBatchRows}
 use Rattle.vm_ops.specs.declared.op.Op.TheVariants as ops
-use Rattle.air_kit.specs.MainTuples.{eight}
-use Rattle.vm_table.specs.Layout.{row_at}
-use Rattle.facts_main.proofs.Says.{never}
-use Rattle.sound_buses.specs.Blocks.{IsAt}
-use Rattle.sound_blocks.specs.Items.{AreItems}
-use Rattle.sound_blocks.specs.Spans.{AreBatches, HasBatchRows}
 
 module _ (rows : List (List ℕ)) where
   items_end : (r e f : ℕ) (xs ys : List Item) → AreItems rows r e xs → AreItems rows r f ys → e ≡ f

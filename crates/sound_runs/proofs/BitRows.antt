@@ -1,14 +1,7 @@
 -- What the rows of bitwise operations look up.
-use Rattle.std.proofs.Common.{◌≡◌, ℕ, suc, ◌<◌, List, length, refl}
-use Rattle.vm_ops.specs.declared.op.Op.{Op}
+use Rattle.sound_runs.proofs.Words.{◌≡◌, ℕ, suc, ◌<◌, List, length, refl, Op, s, Claim, row_at, op_in, off, LooksUpBits}
 use Rattle.vm_ops.specs.declared.op.Op.TheVariants as ops
-use Rattle.vm_table.specs.MainColumns.{s}
-use Rattle.air_kit.specs.Places.{Claim}
 use Rattle.facts_bitwise.specs.BitTables.{IsBitwise}
-use Rattle.vm_table.specs.Layout.{row_at}
-use Rattle.facts_main.specs.MainRows.{op_in}
-use Rattle.facts_main.proofs.Says.{off}
-use Rattle.facts_steps.specs.Lookups.{LooksUpBits}
 use Rattle.sound_runs.proofs.Premises.{Known}
 
 -- what the top two cells and the one that they leave are to each other

@@ -1,23 +1,11 @@
 -- The rows that call a function, and the ENDs of calls.
-use Rattle.std.proofs.Common.{◌≡◌, ℕ, suc, ◌+◌, ◌-◌, ◌<◌, ◌≤◌, ◌^◌, true, false, eqb, List, [], ◌∷◌, drop, length, refl, ap, sym, ◌∙◌, arith, slice_index, lit<}
+use Rattle.sound_runs.proofs.Words.{◌≡◌, ℕ, suc, ◌+◌, ◌-◌, ◌<◌, ◌≤◌, ◌^◌, true, false, eqb, List, [], ◌∷◌, drop, length, refl, ap, sym, ◌∙◌, arith}
+use Rattle.sound_runs.proofs.Words.{slice_index, lit<, is_start_op, Op, clk, f, h, sys, is_op, is_right, front, is_call_op, Claim, function_digest, EndCall}
+use Rattle.sound_runs.proofs.Words.{EndSyscall, StartCall, StartSyscall, frame_of, cycle, KeepsBlock, row_at, op_in, mover, Closes, IsAt, Starts, Goes}
 use Rattle.vm_field.specs.Signs.{◌⊞◌}
-use Rattle.vm_ops.specs.Codes.{is_start_op}
-use Rattle.vm_ops.specs.declared.op.Op.{Op}
 use Rattle.vm_ops.specs.declared.op.Op.TheVariants as ops
-use Rattle.vm_table.specs.MainColumns.{clk, f, h, sys}
-use Rattle.air_kit.specs.Flags.{is_op, is_right}
 use Rattle.air_kit.specs.MainTuples as tuples
-use Rattle.air_kit.specs.MainTuples.{front, is_call_op}
-use Rattle.air_kit.specs.Places.{Claim}
-use Rattle.air_kit.specs.StackValues.{function_digest}
-use Rattle.block_tree.specs.Cycles.{EndCall, EndSyscall, StartCall, StartSyscall, frame_of}
-use Rattle.block_tree.specs.Execution.{cycle}
-use Rattle.facts_main.specs.Blocks.{EntersCall, EntersSyscall, KeepsBlock, keeps_digest}
-use Rattle.vm_table.specs.Layout.{row_at}
-use Rattle.facts_main.specs.MainRows.{op_in}
-use Rattle.facts_main.specs.Stack.{mover}
-use Rattle.sound_buses.specs.Blocks.{Closes, IsAt, Starts}
-use Rattle.sound_runs.specs.Running.{Goes}
+use Rattle.facts_main.specs.Blocks.{EntersCall, EntersSyscall, keeps_digest}
 use Rattle.sound_runs.proofs.EndRows.{end_moves, end_quiet, end_still, flag_of}
 use Rattle.sound_runs.proofs.Going.{goes_on, same_state, state_behind}
 use Rattle.sound_runs.proofs.Levels.{level_closes, level_opens}

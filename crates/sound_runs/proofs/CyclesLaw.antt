@@ -1,22 +1,15 @@
 -- The laws of cycles and of ends.
-use Rattle.std.proofs.Common.{◌≡◌, ℕ, suc, ◌-◌, cond, eqb, List, length, refl, ap, ◌∙◌}
-use Rattle.vm_field.specs.Limits.{number_of_constants}
+use Rattle.sound_runs.proofs.Words.{◌≡◌, ℕ, suc, ◌-◌, cond, eqb, List, length, refl, ap, ◌∙◌, number_of_constants, is_call_op, Claim, claim_of, Mark, cycle}
+use Rattle.sound_runs.proofs.Words.{frames_granted, Goes, ShowRun, ShowsMark, GrantedEnds}
 use Rattle.vm_ops.specs.declared.op.Op.TheVariants as ops
 use Rattle.rpo_hash.specs.Constants.{constants_of}
-use Rattle.air_kit.specs.MainTuples.{is_call_op}
-use Rattle.air_kit.specs.Places.{Claim}
-use Rattle.air_kit.specs.Traces.{claim_of}
 use Rattle.air_kit.specs.declared.trace.Public.{Public}
 use Rattle.air_kit.specs.declared.trace.TableName.TheVariants as table
 use Rattle.air_kit.specs.declared.trace.Trace.{Trace}
-use Rattle.block_tree.specs.Cycles.{Mark}
-use Rattle.block_tree.specs.Execution.{cycle}
 use Rattle.sound_buses.specs.BusFacts.{Granted}
-use Rattle.sound_blocks.proofs.FrameLaw.{frames_granted}
 use Rattle.sound_blocks.proofs.OverflowLaw.{few_inputs, overflow_law}
-use Rattle.sound_runs.specs.Running.{Goes, ShowRun, ShowsMark, span, join, split, loop, call, syscall, dyn, respan, repeat, operation, span_end, join_end, split_end, skipped_end, dyn_end, entered_end, call_end, syscall_end}
+use Rattle.sound_runs.specs.Running.{span, join, split, loop, call, syscall, dyn, respan, repeat, operation, span_end, join_end, split_end, skipped_end, dyn_end, entered_end, call_end, syscall_end}
 use Rattle.sound_runs.specs.Cycles.{GrantedCycles}
-use Rattle.sound_runs.specs.Ends.{GrantedEnds}
 use Rattle.sound_runs.proofs.CallRows.{call_end_goes, call_goes, syscall_end_goes, syscall_goes}
 use Rattle.sound_runs.proofs.EndRows.{end_goes, flag_of, loop_end_goes, span_end_goes}
 use Rattle.sound_runs.proofs.FirstAndLast.{end_facts}

@@ -1,22 +1,9 @@
 -- The ENDs of blocks that call no function.
-use Rattle.std.proofs.Common.{◌≡◌, ℕ, suc, ◌+◌, ◌-◌, ◌<◌, false, ◌&&◌, cond, eqb, List, ◌++◌, drop, length, refl, ap, sym, subst, ◌∙◌, lit<}
-use Rattle.vm_field.specs.Machine.{filled_up}
-use Rattle.vm_ops.specs.declared.op.Op.{Op}
+use Rattle.sound_runs.proofs.Words.{◌≡◌, ℕ, suc, ◌+◌, ◌-◌, ◌<◌, false, ◌&&◌, cond, eqb, List, ◌++◌, drop, length, refl, ap, sym, subst, ◌∙◌, lit<, filled_up}
+use Rattle.sound_runs.proofs.Words.{Op, clk, h, lv, s, is_op, is_right, front, is_call_op, Claim, cells, End, EndLoop, EndSpan, cycle, row_at, op_in, mover}
+use Rattle.sound_runs.proofs.Words.{Closes, IsAt, below_at, Goes}
 use Rattle.vm_ops.specs.declared.op.Op.TheVariants as ops
-use Rattle.vm_table.specs.MainColumns.{clk, h, lv, s}
-use Rattle.air_kit.specs.Flags.{is_op, is_right}
-use Rattle.air_kit.specs.MainTuples.{front, is_call_op}
-use Rattle.air_kit.specs.Places.{Claim}
-use Rattle.air_kit.specs.StackValues.{cells}
-use Rattle.block_tree.specs.Cycles.{End, EndLoop, EndSpan}
-use Rattle.block_tree.specs.Execution.{cycle}
-use Rattle.vm_table.specs.Layout.{row_at}
-use Rattle.facts_main.specs.MainRows.{op_in}
-use Rattle.facts_main.specs.Stack.{mover}
-use Rattle.sound_buses.specs.Blocks.{Closes, IsAt}
-use Rattle.sound_blocks.specs.Lists.{below_at}
 use Rattle.sound_blocks.proofs.Asides.{returns_is}
-use Rattle.sound_runs.specs.Running.{Goes}
 use Rattle.sound_runs.proofs.Going.{goes_on}
 use Rattle.sound_runs.proofs.Levels.{level_closes}
 use Rattle.sound_runs.proofs.Premises.{Known, before, state_in}

@@ -1,18 +1,11 @@
 -- The states of the first row and of the last one.
-use Rattle.std.proofs.Common.{◌≡◌, ℕ, zero, suc, ◌+◌, ◌-◌, ◌<◌, ◌≤◌, List, [], ◌∷◌, ◌++◌, drop, eqb, length, length-drop, max, slice_index, refl, ap, sym, subst, ◌∙◌, arith, lit<}
+use Rattle.sound_runs.proofs.Words.{◌≡◌, ℕ, zero, suc, ◌+◌, ◌-◌, ◌<◌, ◌≤◌, List, [], ◌∷◌, ◌++◌, drop, eqb, length, length-drop, max, slice_index, refl, ap}
+use Rattle.sound_runs.proofs.Words.{sym, subst, ◌∙◌, arith, lit<, filled_up, length-filled_up, index-filled_up, f, s, Claim, memory_at, overflow_at, tape_of}
+use Rattle.sound_runs.proofs.Words.{cells, function_digest, row_at, op_in, EndFacts}
 use Rattle.std.proofs.lemmas.List.{ext_get_or, get_or-drop}
-use Rattle.vm_field.specs.Machine.{filled_up, start}
-use Rattle.vm_field.proofs.Elements.{length-filled_up}
-use Rattle.vm_ops.proofs.FrameLemmas.{index-filled_up}
-use Rattle.vm_table.specs.MainColumns.{f, s}
-use Rattle.air_kit.specs.Places.{Claim}
-use Rattle.air_kit.specs.RowStates.{memory_at, overflow_at, tape_of}
-use Rattle.air_kit.specs.StackValues.{cells, function_digest}
+use Rattle.vm_field.specs.Machine.{start}
 use Rattle.facts_main.specs.Bounds.{IsFirstRow}
-use Rattle.vm_table.specs.Layout.{row_at}
-use Rattle.facts_main.specs.MainRows.{op_in}
 use Rattle.sound_blocks.proofs.Outputs.{all_size, each_is}
-use Rattle.sound_runs.specs.Ends.{EndFacts}
 use Rattle.sound_runs.proofs.Going.{same_state}
 use Rattle.sound_runs.proofs.Premises.{Known, clock_at, state_in}
 

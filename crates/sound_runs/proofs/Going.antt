@@ -1,12 +1,8 @@
 -- A cycle that is allowed goes to the state that is behind it.
-use Rattle.std.proofs.Common.{◌≡◌, ℕ, ◌+◌, ◌<◌, ◌≤◌, List, [], ◌∷◌, take, drop, length, ap, ◌∙◌}
-use Rattle.vm_field.specs.Machine.{State}
+use Rattle.sound_runs.proofs.Words.{◌≡◌, ℕ, ◌+◌, ◌<◌, ◌≤◌, List, [], ◌∷◌, take, drop, length, ap, ◌∙◌, State, Mark, effect_of, advice_taken, Done, cycle}
+use Rattle.sound_runs.proofs.Words.{event_of, taking-done, Goes}
 use Rattle.block_tree.specs.Behind.{IsAllowed, core_behind}
-use Rattle.block_tree.specs.Cycles.{Mark, effect_of, advice_taken}
-use Rattle.block_tree.specs.Execution.{Done, cycle, event_of}
-use Rattle.block_tree.proofs.Parts.{taking-done}
 use Rattle.block_tree.proofs.BehindLemmas.{allowed-cycle}
-use Rattle.sound_runs.specs.Running.{Goes}
 
 -- the state behind a cycle
 abbrev pub state_behind : List ℕ → Mark → State → State

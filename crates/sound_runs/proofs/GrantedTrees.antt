@@ -1,8 +1,6 @@
 -- The facts that trees rest on, of granted rows.
-use Rattle.air_kit.specs.Traces.{claim_of}
-use Rattle.sound_blocks.proofs.FrameLaw.{frames_granted}
+use Rattle.sound_runs.proofs.Words.{claim_of, frames_granted, GrantedTrees}
 use Rattle.sound_blocks.proofs.NestingLaw.{nesting_granted}
-use Rattle.sound_runs.specs.TreeFacts.{GrantedTrees}
 
 pub trees_granted : GrantedTrees
 trees_granted p t some_row g spans = record {

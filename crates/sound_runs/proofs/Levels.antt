@@ -1,13 +1,7 @@
 -- How many blocks are open behind a row.
-use Rattle.std.proofs.Common.{◌≡◌, ℕ, suc, ◌+◌, ◌-◌, ◌<◌, false, List, [], ◌∷◌, drop, length, refl, ap, sym, ◌∙◌, arith}
-use Rattle.vm_ops.specs.Codes.{is_start_op}
+use Rattle.sound_runs.proofs.Words.{◌≡◌, ℕ, suc, ◌+◌, ◌-◌, ◌<◌, false, List, [], ◌∷◌, drop, length, refl, ap, sym, ◌∙◌, arith, is_start_op, lv, is_op, row_at}
+use Rattle.sound_runs.proofs.Words.{op_in, IsAt, Starts, FrameFacts, open_at}
 use Rattle.vm_ops.specs.declared.op.Op.TheVariants as ops
-use Rattle.vm_table.specs.MainColumns.{lv}
-use Rattle.air_kit.specs.Flags.{is_op}
-use Rattle.vm_table.specs.Layout.{row_at}
-use Rattle.facts_main.specs.MainRows.{op_in}
-use Rattle.sound_buses.specs.Blocks.{IsAt, Starts}
-use Rattle.sound_blocks.specs.Frames.{FrameFacts, open_at}
 use Rattle.sound_blocks.proofs.OpenBlocks.{open_at-end, open_at-keep, open_at-start}
 use Rattle.sound_runs.proofs.Premises.{before}
 

@@ -19,3 +19,4 @@ pub mod MemoryRows
 pub mod OperationRows
 pub mod FirstAndLast
 pub mod CyclesLaw
+pub mod Words

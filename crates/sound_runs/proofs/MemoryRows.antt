@@ -1,22 +1,11 @@
 -- What rows look up in memory as the rows before them leave it, which is made of words.
-use Rattle.std.proofs.Common.{◌≡◌, ℕ, zero, suc, ◌<◌, List, [], length, slice_index, Some, refl, sym}
+use Rattle.sound_runs.proofs.Words.{◌≡◌, ℕ, zero, suc, ◌<◌, List, [], length, slice_index, Some, refl, sym, prime, word-of, Op, ctx, s, t, deep_at_start}
+use Rattle.sound_runs.proofs.Words.{Claim, elsewhere_at, memory_at, memory_behind, written_by, ServesRow, access_by, row_at, op_in, off, LooksUpWord}
 use Rattle.std.proofs.lemmas.Option.{slice_get-get_or}
-use Rattle.vm_field.specs.Field.{prime}
 use Rattle.vm_field.specs.Machine.{IsWord, WordMap, word_at}
 use Rattle.vm_field.proofs.Places.{words-empty, words-insert}
-use Rattle.vm_field.proofs.Elements.{word-of}
-use Rattle.vm_ops.specs.declared.op.Op.{Op}
 use Rattle.vm_ops.specs.declared.op.Op.TheVariants as ops
-use Rattle.vm_table.specs.MainColumns.{ctx, s, t}
-use Rattle.air_kit.specs.DeepCells.{deep_at_start}
-use Rattle.air_kit.specs.Places.{Claim}
 use Rattle.air_kit.specs.declared.requests.Access.{Access}
-use Rattle.air_kit.specs.RowStates.{elsewhere_at, memory_at, memory_behind, written_by}
-use Rattle.facts_memory.specs.MainAccesses.{ServesRow, access_by}
-use Rattle.vm_table.specs.Layout.{row_at}
-use Rattle.facts_main.specs.MainRows.{op_in}
-use Rattle.facts_main.proofs.Says.{off}
-use Rattle.facts_steps.specs.Lookups.{LooksUpWord}
 use Rattle.sound_runs.proofs.Premises.{Known, before}
 
 -- ---- what is looked up

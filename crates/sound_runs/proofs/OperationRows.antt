@@ -1,29 +1,14 @@
 -- The rows of ordinary operations.
-use Rattle.std.proofs.Common.{◌≡◌, ◌≢◌, ℕ, suc, ◌+◌, ◌-◌, ◌<◌, ◌≤◌, ◌^◌, true, List, [], ◌∷◌, length, slice_index, ap, sym, ◌∙◌, arith}
-use Rattle.vm_ops.specs.Codes.{is_ordinary_op}
+use Rattle.sound_runs.proofs.Words.{◌≡◌, ◌≢◌, ℕ, suc, ◌+◌, ◌-◌, ◌<◌, ◌≤◌, ◌^◌, true, List, [], ◌∷◌, length, slice_index, ap, sym, ◌∙◌, arith, is_ordinary_op}
+use Rattle.sound_runs.proofs.Words.{clk, depth, s, deep_at_start, depth_at_start, is_left, Claim, elsewhere_at, Do, cycle, event_of, taking-ok, row_at, op_in}
+use Rattle.sound_runs.proofs.Words.{shifts_left_is, below_at, Lookups, place_shows, Goes, item_at}
 use Rattle.vm_ops.specs.Step.{act}
 use Rattle.vm_ops.specs.Values.{advice_of}
 use Rattle.vm_ops.specs.declared.op.Op.TheVariants as ops
-use Rattle.vm_table.specs.MainColumns.{clk, depth, s}
-use Rattle.air_kit.specs.DeepCells.{deep_at_start, depth_at_start}
-use Rattle.air_kit.specs.Flags.{is_left}
-use Rattle.air_kit.specs.Places.{Claim}
-use Rattle.air_kit.specs.RowStates.{elsewhere_at}
-use Rattle.block_tree.specs.Cycles.{Do}
-use Rattle.block_tree.specs.Execution.{cycle, event_of}
-use Rattle.block_tree.proofs.Parts.{taking-ok}
-use Rattle.vm_table.specs.Layout.{row_at}
-use Rattle.facts_main.specs.MainRows.{op_in}
-use Rattle.facts_main.proofs.RunFacts.{shifts_left_is}
 use Rattle.sound_blocks.proofs.Operations.{op_named}
-use Rattle.sound_blocks.specs.Lists.{below_at}
 use Rattle.facts_steps.specs.Joined.{IsRowOf}
-use Rattle.facts_steps.specs.Lookups.{Lookups}
 use Rattle.facts_steps.specs.Showing.{IsPlace}
 use Rattle.facts_steps.proofs.Ordinary.{mover_is, ordinary}
-use Rattle.facts_steps.proofs.Places.{place_shows}
-use Rattle.sound_runs.specs.Running.{Goes}
-use Rattle.sound_blocks.specs.Items.{item_at}
 use Rattle.sound_runs.proofs.BitRows.{bits_at}
 use Rattle.sound_runs.proofs.MemoryRows.{word_looked_up, words_at}
 use Rattle.sound_runs.proofs.Premises.{Known, before, clock_at, state_in}

@@ -1,24 +1,10 @@
 -- What the rows of an accepted main table show, as all that follows takes it.
-use Rattle.std.proofs.Common.{◌≡◌, ℕ, suc, ◌-◌, ◌<◌, ◌≤◌, ◌^◌, List, length, arith}
-use Rattle.vm_field.specs.Limits.{number_of_constants}
-use Rattle.vm_field.specs.Field.{prime}
-use Rattle.vm_field.specs.Machine.{State}
+use Rattle.sound_runs.proofs.Words.{◌≡◌, ℕ, suc, ◌-◌, ◌<◌, ◌≤◌, ◌^◌, List, length, arith, number_of_constants, prime, State, clk, ctx, deep_at_start}
+use Rattle.sound_runs.proofs.Words.{depth_at_start, twelve, Claim, state_at, ServesMain, row_at, ShowsRows, clock_is, GroupFacts, IsAt, FrameFacts}
+use Rattle.sound_runs.proofs.Words.{OverflowLists}
 use Rattle.vm_field.specs.Permutation.{permuted}
 use Rattle.vm_ops.specs.declared.op.Op.TheVariants as ops
-use Rattle.vm_table.specs.MainColumns.{clk, ctx}
-use Rattle.air_kit.specs.DeepCells.{deep_at_start, depth_at_start}
-use Rattle.air_kit.specs.MainTuples.{twelve}
-use Rattle.air_kit.specs.Places.{Claim}
-use Rattle.air_kit.specs.RowStates.{state_at}
-use Rattle.facts_memory.specs.MainAccesses.{ServesMain}
-use Rattle.vm_table.specs.Layout.{row_at}
-use Rattle.facts_main.specs.MainRows.{ShowsRows}
-use Rattle.facts_main.proofs.RunFacts.{clock_is}
-use Rattle.sound_buses.specs.Batches.{GroupFacts}
-use Rattle.sound_buses.specs.Blocks.{IsAt}
 use Rattle.sound_buses.specs.Lookups.{BitFacts, KernelFacts, RangeFacts}
-use Rattle.sound_blocks.specs.Frames.{FrameFacts}
-use Rattle.sound_blocks.specs.Lists.{OverflowLists}
 
 -- the state of row i, beside this claim
 abbrev pub state_in : Claim → List (List ℕ) → ℕ → State

@@ -1,16 +1,8 @@
 -- What the row of a block leaves as it is: memory, the tape and, unless it calls or ends a call, the function that runs.
-use Rattle.std.proofs.Common.{◌≡◌, ℕ, suc, ◌<◌, Bool, true, false, ◌||◌, not, List, [], ◌∷◌, ◌++◌, drop, None, refl, ap, sym, ◌∙◌, lit<}
-use Rattle.vm_ops.specs.declared.op.Op.{Op}
+use Rattle.sound_runs.proofs.Words.{◌≡◌, ℕ, suc, ◌<◌, Bool, true, false, ◌||◌, not, List, [], ◌∷◌, ◌++◌, drop, None, refl, ap, sym, ◌∙◌, lit<, Op, fmp, ctx}
+use Rattle.sound_runs.proofs.Words.{sys, f, is_op, is_right, is_call_op, memory_at, memory_behind, taken_by, tape_of, written_by, function_digest, KeepsBlock}
+use Rattle.sound_runs.proofs.Words.{ends_call, row_at, tape_goes, IsAt}
 use Rattle.vm_ops.specs.declared.op.Op.TheVariants as ops
-use Rattle.vm_table.specs.MainColumns.{fmp, ctx, sys, f}
-use Rattle.air_kit.specs.Flags.{is_op, is_right}
-use Rattle.air_kit.specs.MainTuples.{is_call_op}
-use Rattle.air_kit.specs.RowStates.{memory_at, memory_behind, taken_by, tape_of, written_by}
-use Rattle.air_kit.specs.StackValues.{function_digest}
-use Rattle.facts_main.specs.Blocks.{KeepsBlock, ends_call}
-use Rattle.vm_table.specs.Layout.{row_at}
-use Rattle.facts_steps.proofs.Places.{tape_goes}
-use Rattle.sound_buses.specs.Blocks.{IsAt}
 
 -- an operation that takes nothing from the tape and writes nothing, and neither pushes a cell nor moves the frame pointer
 pub record IsQuiet (m : Op) : Type 0 where

@@ -1,16 +1,7 @@
 -- Parts of a run one behind the other, and the run of a span.
-use Rattle.std.proofs.Common.{ℕ, suc, List, [], ◌++◌, sym, subst}
-use Rattle.vm_field.specs.Machine.{State}
-use Rattle.vm_ops.specs.declared.item.Item.{Item}
+use Rattle.sound_runs.proofs.Words.{ℕ, suc, List, [], ◌++◌, sym, subst, State, Item, Mark, Do, Respan, Part, batches_from, cycle, operations, read_operations}
+use Rattle.sound_runs.proofs.Words.{seq, skip, seq-done, skip-done, eight, row_at, AreItems, item_at, AreBatches, HasBatchRows, Goes, ShowRun, ShowsMark}
 use Rattle.op_pack.specs.Reading.{reading}
-use Rattle.block_tree.specs.Cycles.{Mark, Do, Respan}
-use Rattle.block_tree.specs.Execution.{Part, batches_from, cycle, operations, read_operations, seq, skip}
-use Rattle.block_tree.proofs.Parts.{seq-done, skip-done}
-use Rattle.air_kit.specs.MainTuples.{eight}
-use Rattle.vm_table.specs.Layout.{row_at}
-use Rattle.sound_blocks.specs.Items.{AreItems, item_at}
-use Rattle.sound_blocks.specs.Spans.{AreBatches, HasBatchRows}
-use Rattle.sound_runs.specs.Running.{Goes, ShowRun, ShowsMark}
 
 pub then_goes : (st : ℕ → State) (f g : Part) (i k m : ℕ) → Goes st (f (st i)) k → Goes st (g (st k)) m → Goes st (seq f g (st i)) m
 then_goes st f g i k m first second =

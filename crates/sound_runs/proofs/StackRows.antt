@@ -1,23 +1,9 @@
 -- The whole stack of a row and of the row behind it, where a block starts, turns or ends.
-use Rattle.std.proofs.Common.{◌≡◌, ℕ, suc, ◌<◌, ◌≤◌, true, false, List, [], ◌∷◌, ◌++◌, take, drop, length, refl, ap, ap₂, sym, subst, ◌∙◌, lit≤}
-use Rattle.vm_field.specs.Machine.{filled_up}
-use Rattle.vm_ops.specs.Moves.{takes_of, leaves_of}
-use Rattle.vm_ops.specs.declared.op.Op.{Op}
-use Rattle.vm_table.specs.MainColumns.{depth}
-use Rattle.air_kit.specs.Flags.{is_left, is_right}
-use Rattle.air_kit.specs.MainTuples.{is_call_op, row_shifts_left}
-use Rattle.air_kit.specs.Places.{Claim}
-use Rattle.air_kit.specs.RowStates.{Overflow, row_returns}
-use Rattle.air_kit.specs.StackValues.{cells}
-use Rattle.vm_table.specs.Layout.{row_at}
-use Rattle.facts_main.specs.MainRows.{op_in}
-use Rattle.facts_main.specs.Stack.{ShiftsCells, mover}
-use Rattle.facts_main.proofs.RunFacts.{shifts_left_is}
-use Rattle.sound_buses.specs.Blocks.{Closes}
-use Rattle.sound_blocks.specs.Lists.{below_at}
+use Rattle.sound_runs.proofs.Words.{◌≡◌, ℕ, suc, ◌<◌, ◌≤◌, true, false, List, [], ◌∷◌, ◌++◌, take, drop, length, refl, ap, ap₂, sym, subst, ◌∙◌, lit≤}
+use Rattle.sound_runs.proofs.Words.{filled_up, takes_of, leaves_of, Op, depth, is_left, is_right, is_call_op, row_shifts_left, Claim, Overflow, row_returns}
+use Rattle.sound_runs.proofs.Words.{cells, row_at, op_in, ShiftsCells, mover, shifts_left_is, Closes, below_at, drop_cells, take_cells}
 use Rattle.sound_blocks.proofs.Returns.{overflow_in, next_is}
 use Rattle.sound_blocks.proofs.RowKinds.{behind_call, behind_flat, behind_same}
-use Rattle.facts_steps.proofs.Seeing.{drop_cells, take_cells}
 use Rattle.sound_runs.proofs.Premises.{Known, before}
 use Rattle.sound_runs.proofs.Stacks.{cells_stay, stack_popped}
 

@@ -1,17 +1,10 @@
 -- The cells of a row and of the row behind it, where the row moves no cell, and where it takes the top one off.
-use Rattle.std.proofs.Common.{◌≡◌, ◌≢◌, ◌⊎◌, inl, inr, ℕ, suc, ◌+◌, ◌-◌, ◌<◌, ◌≤◌, true, false, ◌&&◌, eqb, List, [], ◌∷◌, ◌++◌, drop, length, slice_index, refl, ap, sym, subst, ◌∙◌, arith, lit<}
+use Rattle.sound_runs.proofs.Words.{◌≡◌, ◌≢◌, ◌⊎◌, inl, inr, ℕ, suc, ◌+◌, ◌-◌, ◌<◌, ◌≤◌, true, false, ◌&&◌, eqb, List, [], ◌∷◌, ◌++◌, drop, length}
+use Rattle.sound_runs.proofs.Words.{slice_index, refl, ap, sym, subst, ◌∙◌, arith, lit<, filled_up, takes_of, leaves_of, filled_up-deep, Op, s, depth}
+use Rattle.sound_runs.proofs.Words.{is_left, cells, ShiftsCells, cells_index, length_cells}
 use Rattle.std.proofs.lemmas.Grind.{same_number_lists}
 use Rattle.std.proofs.lemmas.Bool.{ne_eqb}
 use Rattle.std.proofs.lemmas.List.{nil_from_length}
-use Rattle.vm_field.specs.Machine.{filled_up}
-use Rattle.vm_ops.specs.Moves.{takes_of, leaves_of}
-use Rattle.vm_ops.proofs.FrameLemmas.{filled_up-deep}
-use Rattle.vm_ops.specs.declared.op.Op.{Op}
-use Rattle.vm_table.specs.MainColumns.{s, depth}
-use Rattle.air_kit.specs.Flags.{is_left}
-use Rattle.air_kit.specs.StackValues.{cells}
-use Rattle.facts_main.specs.Stack.{ShiftsCells}
-use Rattle.facts_steps.proofs.Seeing.{cells_index, length_cells}
 
 -- ---- no cell is moved
 

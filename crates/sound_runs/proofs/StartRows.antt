@@ -1,24 +1,9 @@
 -- The rows of the starts of blocks that call no function.
-use Rattle.std.proofs.Common.{◌≡◌, ℕ, suc, ◌+◌, ◌-◌, ◌<◌, ◌≤◌, true, false, ◌||◌, List, ◌++◌, drop, length, refl, ap, sym, subst, ◌∙◌, arith}
-use Rattle.vm_field.specs.Machine.{filled_up}
-use Rattle.vm_ops.specs.Codes.{is_start_op}
-use Rattle.vm_ops.specs.declared.op.Op.{Op}
+use Rattle.sound_runs.proofs.Words.{◌≡◌, ℕ, suc, ◌+◌, ◌-◌, ◌<◌, ◌≤◌, true, false, ◌||◌, List, ◌++◌, drop, length, refl, ap, sym, subst, ◌∙◌, arith, filled_up}
+use Rattle.sound_runs.proofs.Words.{is_start_op, Op, clk, lv, is_op, is_right, back, eight, front, is_batch_op, is_call_op, Claim, cells, StartDyn, StartJoin}
+use Rattle.sound_runs.proofs.Words.{StartLoop, StartSpan, StartSplit, top, cycle, ends_call, row_at, mover, Begins, IsAt, Starts, below_at, Goes}
 use Rattle.vm_ops.specs.declared.op.Op.TheVariants as ops
-use Rattle.vm_table.specs.MainColumns.{clk, lv}
-use Rattle.air_kit.specs.Flags.{is_op, is_right}
-use Rattle.air_kit.specs.MainTuples.{back, eight, front, is_batch_op, is_call_op}
-use Rattle.air_kit.specs.Places.{Claim}
-use Rattle.air_kit.specs.StackValues.{cells}
 use Rattle.block_tree.specs.Behind.{HasReading}
-use Rattle.block_tree.specs.Cycles.{StartDyn, StartJoin, StartLoop, StartSpan, StartSplit, top}
-use Rattle.block_tree.specs.Execution.{cycle}
-use Rattle.facts_main.specs.Blocks.{ends_call}
-use Rattle.vm_table.specs.Layout.{row_at}
-use Rattle.facts_main.specs.Stack.{mover}
-use Rattle.sound_buses.specs.Batches.{Begins}
-use Rattle.sound_buses.specs.Blocks.{IsAt, Starts}
-use Rattle.sound_blocks.specs.Lists.{below_at}
-use Rattle.sound_runs.specs.Running.{Goes}
 use Rattle.sound_blocks.proofs.BatchReads.{has_batch}
 use Rattle.sound_runs.proofs.Going.{goes_on}
 use Rattle.sound_runs.proofs.Levels.{level_opens}

@@ -1,20 +1,7 @@
 -- The state of a row and that of the row behind it, where a block starts, turns or ends.
-use Rattle.std.proofs.Common.{◌≡◌, ℕ, suc, ◌+◌, ◌<◌, false, eqb, List, [], ◌∷◌, ◌++◌, length, slice_index, ap, sym, ◌∙◌, arith}
-use Rattle.vm_ops.specs.declared.op.Op.{Op}
+use Rattle.sound_runs.proofs.Words.{◌≡◌, ℕ, suc, ◌+◌, ◌<◌, false, eqb, List, [], ◌∷◌, ◌++◌, length, slice_index, ap, sym, ◌∙◌, arith, Op, State, is_op, clk}
+use Rattle.sound_runs.proofs.Words.{lv, s, called_digest, is_call_op, Claim, cells, called_word, top, ends_call, row_at, op_in, IsAt, below_at, top_index}
 use Rattle.vm_ops.specs.declared.op.Op.TheVariants as ops
-use Rattle.vm_field.specs.Machine.{State}
-use Rattle.air_kit.specs.Flags.{is_op}
-use Rattle.vm_table.specs.MainColumns.{clk, lv, s}
-use Rattle.air_kit.specs.MainTuples.{called_digest, is_call_op}
-use Rattle.air_kit.specs.Places.{Claim}
-use Rattle.air_kit.specs.StackValues.{cells}
-use Rattle.block_tree.specs.Cycles.{called_word, top}
-use Rattle.facts_main.specs.Blocks.{ends_call}
-use Rattle.vm_table.specs.Layout.{row_at}
-use Rattle.facts_main.specs.MainRows.{op_in}
-use Rattle.sound_buses.specs.Blocks.{IsAt}
-use Rattle.sound_blocks.specs.Lists.{below_at}
-use Rattle.facts_steps.proofs.Seeing.{top_index}
 use Rattle.sound_runs.proofs.Going.{same_state}
 use Rattle.sound_runs.proofs.Premises.{Known, before, clock_at, state_in}
 use Rattle.sound_runs.proofs.Quiet.{IsQuiet, IsSameFunction, memory_stays, same_function, tape_stays}

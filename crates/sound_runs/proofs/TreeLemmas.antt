@@ -1,25 +1,13 @@
 -- The digest and the hashes of a tree that is built along the rows.
-use Rattle.std.proofs.Common.{◌≡◌, ◌≢◌, ℕ, suc, ◌+◌, ◌<◌, true, false, ◌||◌, List, [], ◌∷◌, ◌++◌, length, Some, refl, sym, ap, ap₂, ◌∙◌, arith, lit<}
+use Rattle.sound_runs.proofs.Words.{◌≡◌, ◌≢◌, ℕ, suc, ◌+◌, ◌<◌, true, false, ◌||◌, List, [], ◌∷◌, ◌++◌, length, Some, refl, sym, ap, ap₂, ◌∙◌, arith, lit<}
+use Rattle.sound_runs.proofs.Words.{code_of, Op, h, refines-digest, is_op, computation_at, back, domain_of, eight, front, is_call_op, row_at, op_in, never}
+use Rattle.sound_runs.proofs.Words.{Closes, IsAt, own, AreBatches, IsHashedAt, Built, Turns, TreeDigest, TreeFacts, TreeGood}
 use Rattle.vm_field.specs.Machine.{zero_word}
 use Rattle.vm_field.specs.Sponge.{HashInput, digest_of_input}
-use Rattle.vm_ops.specs.Codes.{code_of}
-use Rattle.vm_ops.specs.declared.op.Op.{Op}
 use Rattle.vm_ops.specs.declared.op.Op.TheVariants as ops
-use Rattle.vm_table.specs.MainColumns.{h}
 use Rattle.block_tree.specs.Trees.{input_of_batches, input_of_dyn, input_of_one, input_of_two}
-use Rattle.block_tree.proofs.Refinement.{refines-digest}
-use Rattle.air_kit.specs.Flags.{is_op}
-use Rattle.air_kit.specs.Hashes.{computation_at}
-use Rattle.air_kit.specs.MainTuples.{back, domain_of, eight, front, is_call_op}
-use Rattle.vm_table.specs.Layout.{row_at}
-use Rattle.facts_main.specs.MainRows.{op_in}
-use Rattle.facts_main.proofs.Says.{never}
-use Rattle.sound_buses.specs.Blocks.{Closes, IsAt, own}
-use Rattle.sound_blocks.specs.Spans.{AreBatches, IsHashedAt}
 use Rattle.tree_merge.specs.Placed.{PlacedTree, placed_digest}
 use Rattle.tree_merge.specs.Merging.{Good, AreGood}
-use Rattle.sound_runs.specs.Built.{Built, Turns}
-use Rattle.sound_runs.specs.TreeFacts.{TreeDigest, TreeFacts, TreeGood}
 use Rattle.sound_runs.proofs.Batches.{same_batches}
 
 word_zero : (word : ℕ → ℕ) → ((j : ℕ) → j < 4 → word j ≡ 0) → zero_word ≡ word 0 ∷ word 1 ∷ word 2 ∷ word 3 ∷ []

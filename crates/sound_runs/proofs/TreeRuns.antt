@@ -1,25 +1,16 @@
 -- A tree that is built along the rows runs as they go.
-use Rattle.std.proofs.Common.{◌≡◌, ℕ, zero, suc, ◌+◌, ◌-◌, ◌<◌, ◌≤◌, Bool, true, false, ◌&&◌, cond, eqb, List, Some, None, length, refl, sym, ap, ◌∙◌, subst, arith}
+use Rattle.sound_runs.proofs.Words.{◌≡◌, ℕ, zero, suc, ◌+◌, ◌-◌, ◌<◌, ◌≤◌, Bool, true, false, ◌&&◌, cond, eqb, List, Some, None, length, refl, sym, ap, ◌∙◌}
+use Rattle.sound_runs.proofs.Words.{subst, arith, State, h, s, Mark, StartSpan, StartJoin, StartSplit, StartLoop, StartCall, StartSyscall, StartDyn, Repeat}
+use Rattle.sound_runs.proofs.Words.{End, EndSpan, EndLoop, EndCall, EndSyscall, called_word, frame_of, top, Part, at_bit, cycle, execution, seq, turns}
+use Rattle.sound_runs.proofs.Words.{keep-execution, is_op, computation_at, back, called_digest, front, row_at, op_in, Closes, IsAt, own, Built, Turns, Goes}
+use Rattle.sound_runs.proofs.Words.{ShowRun, ShowsMark, TreeFacts}
 use lib.Pointwise.{bytes_decides}
-use Rattle.vm_field.specs.Machine.{State}
 use Rattle.vm_ops.specs.declared.op.Op.TheVariants as ops
-use Rattle.vm_table.specs.MainColumns.{h, s}
-use Rattle.block_tree.specs.Cycles.{Mark, StartSpan, StartJoin, StartSplit, StartLoop, StartCall, StartSyscall, StartDyn, Repeat, End, EndSpan, EndLoop, EndCall, EndSyscall, called_word, frame_of, top}
-use Rattle.block_tree.specs.Execution.{Part, at_bit, cycle, execution, seq, turns}
 use Rattle.block_tree.specs.Trees as blocks
 use Rattle.block_tree.specs.Trees.{Tree, Refines, first_target, no_target, target}
-use Rattle.block_tree.proofs.Refinement.{keep-execution}
 use Rattle.block_tree.proofs.TargetLemmas.{dyn_run, execution-Dyn}
-use Rattle.air_kit.specs.Flags.{is_op}
-use Rattle.air_kit.specs.Hashes.{computation_at}
-use Rattle.air_kit.specs.MainTuples.{back, called_digest, front}
-use Rattle.vm_table.specs.Layout.{row_at}
-use Rattle.facts_main.specs.MainRows.{op_in}
-use Rattle.sound_buses.specs.Blocks.{Closes, IsAt, own}
 use Rattle.tree_merge.specs.Placed.{PlacedTree, Opaque, Span, Join, Split, Loop, Call, Syscall, Dyn, no_placed, placed, placed_digest, plain}
-use Rattle.sound_runs.specs.Built.{Built, Turns}
-use Rattle.sound_runs.specs.Running.{Goes, ShowRun, ShowsMark, TreeRuns}
-use Rattle.sound_runs.specs.TreeFacts.{TreeFacts}
+use Rattle.sound_runs.specs.Running.{TreeRuns}
 use Rattle.sound_runs.proofs.SpanRuns.{batches_go, then_goes}
 use Rattle.sound_runs.proofs.TreeLemmas.{built_digest, turns_digest}
 

@@ -1,21 +1,8 @@
 -- The rows of the next batch of a span and of a further turn of a loop.
-use Rattle.std.proofs.Common.{◌≡◌, ℕ, suc, ◌-◌, ◌<◌, List, ◌++◌, drop, length, refl, ap, sym, subst, ◌∙◌, lit<}
-use Rattle.vm_field.specs.Machine.{filled_up}
-use Rattle.vm_ops.specs.Codes.{is_start_op}
+use Rattle.sound_runs.proofs.Words.{◌≡◌, ℕ, suc, ◌-◌, ◌<◌, List, ◌++◌, drop, length, refl, ap, sym, subst, ◌∙◌, lit<, filled_up, is_start_op, lv, s, is_op}
+use Rattle.sound_runs.proofs.Words.{is_right, eight, front, is_batch_op, is_call_op, Claim, cells, Repeat, Respan, cycle, ends_call, row_at, mover, IsAt}
+use Rattle.sound_runs.proofs.Words.{below_at, Goes}
 use Rattle.vm_ops.specs.declared.op.Op.TheVariants as ops
-use Rattle.vm_table.specs.MainColumns.{lv, s}
-use Rattle.air_kit.specs.Flags.{is_op, is_right}
-use Rattle.air_kit.specs.MainTuples.{eight, front, is_batch_op, is_call_op}
-use Rattle.air_kit.specs.Places.{Claim}
-use Rattle.air_kit.specs.StackValues.{cells}
-use Rattle.block_tree.specs.Cycles.{Repeat, Respan}
-use Rattle.block_tree.specs.Execution.{cycle}
-use Rattle.facts_main.specs.Blocks.{ends_call}
-use Rattle.vm_table.specs.Layout.{row_at}
-use Rattle.facts_main.specs.Stack.{mover}
-use Rattle.sound_buses.specs.Blocks.{IsAt}
-use Rattle.sound_blocks.specs.Lists.{below_at}
-use Rattle.sound_runs.specs.Running.{Goes}
 use Rattle.sound_runs.proofs.Going.{goes_on}
 use Rattle.sound_runs.proofs.Levels.{level_stays}
 use Rattle.sound_runs.proofs.Premises.{Known, before, state_in}

@@ -1,8 +1,5 @@
 -- Fields one behind the other.
-use Rattle.std.proofs.Common.{◌≡◌, Result, Ok, Err, refl, ap}
-use Rattle.table_file.specs.declared.cause.FileError.{FileError}
-use Rattle.table_file.specs.declared.cause.FileError.TheVariants.{Bad, Memory}
-use Rattle.table_file.specs.Fields.{behind, GivesRead}
+use Rattle.table_file.proofs.Words.{◌≡◌, Result, Ok, Err, refl, ap, FileError, Bad, Memory, behind, GivesRead}
 
 -- a good field leaves what follows it
 pub goes_past : {A B : Type 0} (r : Result A FileError) (x : A) (next : A → Result B FileError) → r ≡ Ok x → behind r next ≡ next x

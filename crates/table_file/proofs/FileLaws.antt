@@ -1,18 +1,11 @@
 -- The laws of table files.
-use Rattle.std.proofs.Common.{◌≡◌, ℕ, suc, ◌+◌, ◌*◌, ◌≤◌, Bool, true, false, cond, nat_lt, List, [], ◌∷◌, ◌++◌, length, drop, map, Result, Ok, Err, refl, sym, ap, ap₂, subst, ◌∙◌, arith}
-use Rattle.std.proofs.lemmas.Bool.{ltb-false, le-ltb}
-use Rattle.std.proofs.lemmas.List.{drop_all, length-drop}
-use Rattle.vm_table.specs.Layout.{IsTable}
-use Rattle.air_kit.specs.Tables.{columns, every_table}
-use Rattle.air_kit.specs.Traces.{HasCounts, lengths_of, rows_of}
-use Rattle.air_kit.specs.declared.trace.TableName.{TableName}
+use Rattle.table_file.proofs.Words.{◌≡◌, ℕ, suc, ◌+◌, ◌*◌, ◌≤◌, Bool, true, false, cond, nat_lt, List, [], ◌∷◌, ◌++◌, length, drop, map, Result, Ok, Err}
+use Rattle.table_file.proofs.Words.{refl, sym, ap, ap₂, subst, ◌∙◌, arith, ltb-false, le-ltb, drop_all, length-drop, IsTable, columns, every_table, HasCounts}
+use Rattle.table_file.proofs.Words.{lengths_of, rows_of, TableName, Trace, FileError, Bad, parts_bytes, rows_at, table_bytes, AreTables, FitsVersion}
+use Rattle.table_file.proofs.Words.{bytes_in, bytes_of, ended_at, head_bytes, head_of, is_version, no_rows, tables_from, this_version, trace_of, version_of}
+use Rattle.table_file.proofs.Words.{with_rows}
 use Rattle.air_kit.specs.declared.trace.TableName.TheVariants as table
-use Rattle.air_kit.specs.declared.trace.Trace.{Trace}
 use Rattle.table_file.specs.declared.cause.FileCause.TheVariants as cause
-use Rattle.table_file.specs.declared.cause.FileError.{FileError}
-use Rattle.table_file.specs.declared.cause.FileError.TheVariants.{Bad}
-use Rattle.table_file.specs.Fields.{parts_bytes, rows_at, table_bytes}
-use Rattle.table_file.specs.Files.{AreTables, FitsVersion, bytes_in, bytes_of, ended_at, head_bytes, head_of, is_version, no_rows, tables_from, this_version, trace_of, version_of, with_rows}
 use Rattle.table_file.proofs.Chains.{chain}
 use Rattle.table_file.proofs.NumberLaws.{AreBytes}
 use Rattle.table_file.proofs.HeadLaws.{head-says, head-read}

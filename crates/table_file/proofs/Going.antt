@@ -1,9 +1,6 @@
 -- How parts are read one after the other.
-use Rattle.std.proofs.Common.{◌≡◌, ℕ, zero, suc, ◌+◌, ◌-◌, ◌*◌, ◌<◌, ◌≤◌, List, [], ◌∷◌, ◌++◌, take, set, length, Result, Ok, Err, refl, sym, ap, ◌∙◌, arith, append_assoc, append-nil}
-use Rattle.std.proofs.Math.Seq.{take-suc-set}
-use Rattle.std.proofs.lemmas.List.{take_all}
-use Rattle.table_file.specs.declared.cause.FileError.{FileError}
-use Rattle.table_file.specs.Fields.{behind, parts_at}
+use Rattle.table_file.proofs.Words.{◌≡◌, ℕ, zero, suc, ◌+◌, ◌-◌, ◌*◌, ◌<◌, ◌≤◌, List, [], ◌∷◌, ◌++◌, take, set, length, Result, Ok, Err, refl, sym, ap, ◌∙◌}
+use Rattle.table_file.proofs.Words.{arith, append_assoc, append-nil, take-suc-set, take_all, FileError, behind, parts_at}
 
 module _ {A : Type 0} (part : ℕ → Result A FileError) (size : ℕ) where
   pub parts_more : (m at : ℕ) (x : A) → part at ≡ Ok x

@@ -1,17 +1,10 @@
 -- Laws of the head of a table file.
-use Rattle.std.proofs.Common.{◌≡◌, ℕ, suc, ◌+◌, ◌*◌, ◌^◌, ◌<◌, ◌≤◌, Bool, true, ◌==◌, List, [], ◌∷◌, ◌++◌, drop, length, map, codes, Result, Ok, refl, sym, ap, subst, ◌∙◌, arith, append_assoc}
-use Rattle.std.proofs.lemmas.Bool.{eqb-true}
-use Rattle.byteorder.specs.Endian.{little_bytes}
-use Rattle.byteorder.specs.Numbers.{length-bytes_low_first}
-use Rattle.air_kit.specs.Tables.{every_table}
-use Rattle.air_kit.specs.Traces.{most_rows}
-use Rattle.air_kit.specs.declared.trace.TableName.{TableName}
+use Rattle.table_file.proofs.Words.{◌≡◌, ℕ, suc, ◌+◌, ◌*◌, ◌^◌, ◌<◌, ◌≤◌, Bool, true, ◌==◌, List, [], ◌∷◌, ◌++◌, drop, length, map, codes, Result, Ok, refl}
+use Rattle.table_file.proofs.Words.{sym, ap, subst, ◌∙◌, arith, append_assoc, eqb-true, little_bytes, length-bytes_low_first, every_table, most_rows}
+use Rattle.table_file.proofs.Words.{TableName, FileCause, FileError, number_at, parts_bytes, magic, count_at, count_bytes, counts_at, head_of, head_bytes}
+use Rattle.table_file.proofs.Words.{is_version, may_have_in, version_of}
 use Rattle.air_kit.specs.declared.trace.TableName.TheVariants as table
-use Rattle.table_file.specs.declared.cause.FileCause.{FileCause}
 use Rattle.table_file.specs.declared.cause.FileCause.TheVariants as cause
-use Rattle.table_file.specs.declared.cause.FileError.{FileError}
-use Rattle.table_file.specs.Fields.{number_at, parts_bytes}
-use Rattle.table_file.specs.Files.{magic, count_at, count_bytes, counts_at, head_of, head_bytes, is_version, may_have_in, version_of}
 use Rattle.table_file.proofs.Chains.{chain}
 use Rattle.table_file.proofs.NumberLaws.{AreBytes, number-says, number-tested, number-written, number-reads}
 use Rattle.table_file.proofs.PartLaws.{behind_part}

@@ -1,13 +1,7 @@
 -- A table file that is given piece by piece.
-use Rattle.std.proofs.Common.{◌≡◌, ℕ, ◌+◌, ◌<◌, ◌≤◌, false, true, List, [], ◌∷◌, ◌++◌, drop, get_or, length, refl, sym, ap, ◌∙◌, append_assoc}
-use Rattle.std.proofs.lemmas.List.{drop_all, drop_more}
-use Rattle.air_kit.specs.Tables.{every_table}
-use Rattle.air_kit.specs.Traces.{lengths_of, rows_of}
-use Rattle.air_kit.specs.declared.trace.TableName.{TableName}
-use Rattle.air_kit.specs.declared.trace.Trace.{Trace}
-use Rattle.table_file.specs.Fields.{parts_bytes, row_bytes, table_bytes}
-use Rattle.table_file.specs.Files.{bytes_in, bytes_of, head_bytes, this_version}
-use Rattle.table_file.specs.Left.{left_of, rows_left}
+use Rattle.table_file.proofs.Words.{◌≡◌, ℕ, ◌+◌, ◌<◌, ◌≤◌, false, true, List, [], ◌∷◌, ◌++◌, drop, get_or, length, refl, sym, ap, ◌∙◌, append_assoc, drop_all}
+use Rattle.table_file.proofs.Words.{drop_more, every_table, lengths_of, rows_of, TableName, Trace, parts_bytes, row_bytes, table_bytes, bytes_in, bytes_of}
+use Rattle.table_file.proofs.Words.{head_bytes, this_version, left_of, rows_left}
 use Rattle.table_file.proofs.TablesByName.{Rows, name_at, tables_at}
 
 -- nothing was given

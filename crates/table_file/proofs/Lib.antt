@@ -14,3 +14,4 @@ pub mod PartTraces
 pub mod RowReading
 pub mod Versions
 pub mod Readers
+pub mod Words

@@ -1,17 +1,12 @@
 -- A number's bytes are the only ones that read as it.
-use Rattle.std.proofs.Common.{◌≡◌, ℕ, zero, suc, ◌+◌, ◌*◌, ◌/◌, ◌%◌, ◌^◌, ◌<◌, ◌≤◌, Bool, true, false, cond, ltb, List, [], ◌∷◌, ◌++◌, length, drop, All, Result, Ok, Err, refl, sym, ap, ap₂, ◌∙◌, arith}
+use Rattle.table_file.proofs.Words.{◌≡◌, ℕ, zero, suc, ◌+◌, ◌*◌, ◌/◌, ◌%◌, ◌^◌, ◌<◌, ◌≤◌, Bool, true, false, cond, ltb, List, [], ◌∷◌, ◌++◌, length, drop}
+use Rattle.table_file.proofs.Words.{All, Result, Ok, Err, refl, sym, ap, ap₂, ◌∙◌, arith, ltb-false, le-ltb, drop-drop, length-append, length-drop}
+use Rattle.table_file.proofs.Words.{little_bytes, little_number, little_from-cons, little_number-reads_back, length-bytes_low_first, FileCause, FileError}
+use Rattle.table_file.proofs.Words.{Bad, number_at}
 use Rattle.std.proofs.Math.Nat.{div-div-eq-div-mul, pow-succ'}
-use Rattle.std.proofs.lemmas.Bool.{ltb-false, le-ltb}
-use Rattle.std.proofs.lemmas.List.{drop-drop, length-append, length-drop}
 use Rattle.std.proofs.lemmas.List.Elements.{All-drop, All-tail}
 use Rattle.std.specs.Int.{byte_at, bytes_low_first}
-use Rattle.byteorder.specs.Endian.{little_bytes, little_number}
-use Rattle.byteorder.specs.Numbers.{little_from-cons, little_number-reads_back, length-bytes_low_first}
-use Rattle.table_file.specs.declared.cause.FileCause.{FileCause}
 use Rattle.table_file.specs.declared.cause.FileCause.TheVariants as cause
-use Rattle.table_file.specs.declared.cause.FileError.{FileError}
-use Rattle.table_file.specs.declared.cause.FileError.TheVariants.{Bad}
-use Rattle.table_file.specs.Fields.{number_at}
 
 -- each number of a list is a byte
 abbrev pub AreBytes : List ℕ → Type 0

@@ -1,6 +1,5 @@
 -- How parts are written one after the other.
-use Rattle.std.proofs.Common.{◌≡◌, ℕ, List, [], ◌∷◌, ◌++◌, flat_map, refl, ap}
-use Rattle.table_file.specs.Fields.{parts_bytes}
+use Rattle.table_file.proofs.Words.{◌≡◌, ℕ, List, [], ◌∷◌, ◌++◌, flat_map, refl, ap, parts_bytes}
 
 module _ {A : Type 0} (write : A → List ℕ) where
   -- joined as std joins what a function makes of each

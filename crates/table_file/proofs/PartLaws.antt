@@ -1,10 +1,7 @@
 -- Laws of parts that are read one after the other, from those of one part.
-use Rattle.std.proofs.Common.{◌≡◌, ℕ, zero, suc, ◌+◌, ◌*◌, List, [], ◌∷◌, ◌++◌, length, drop, All, Result, Ok, refl, sym, ap, ap₂, subst, ◌∙◌, arith, append_assoc}
-use Rattle.std.proofs.Math.Seq.{drop-append_seam}
-use Rattle.std.proofs.lemmas.List.{drop-drop, length-append}
+use Rattle.table_file.proofs.Words.{◌≡◌, ℕ, zero, suc, ◌+◌, ◌*◌, List, [], ◌∷◌, ◌++◌, length, drop, All, Result, Ok, refl, sym, ap, ap₂, subst, ◌∙◌, arith}
+use Rattle.table_file.proofs.Words.{append_assoc, drop-append_seam, drop-drop, length-append, FileError, behind, parts_at, parts_bytes}
 use Rattle.std.proofs.lemmas.List.Elements.{All-nil, All-cons, All-head, All-tail}
-use Rattle.table_file.specs.declared.cause.FileError.{FileError}
-use Rattle.table_file.specs.Fields.{behind, parts_at, parts_bytes}
 use Rattle.table_file.proofs.Chains.{chain}
 use Rattle.table_file.proofs.Going.{parts_more, parts_none}
 

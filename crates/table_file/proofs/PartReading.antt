@@ -1,15 +1,8 @@
 -- What is read from bytes that stand at a place.
-use Rattle.std.proofs.Common.{◌≡◌, ℕ, ◌+◌, ◌*◌, ◌<◌, ◌≤◌, List, ◌++◌, drop, length, Ok, Err, refl, sym, ap, ◌∙◌, arith, append_assoc}
-use Rattle.std.proofs.Math.Seq.{take-append_seam, drop-append_seam}
-use Rattle.std.proofs.lemmas.Bool.{le-ltb, lt-ltb}
-use Rattle.std.proofs.lemmas.List.{drop-append-le, drop-drop, length-append, length-drop}
-use Rattle.vm_field.specs.Field.{prime}
-use Rattle.byteorder.specs.Endian.{little_number}
-use Rattle.byteorder.specs.Numbers.{little_from-take}
+use Rattle.table_file.proofs.Words.{◌≡◌, ℕ, ◌+◌, ◌*◌, ◌<◌, ◌≤◌, List, ◌++◌, drop, length, Ok, Err, refl, sym, ap, ◌∙◌, arith, append_assoc, take-append_seam}
+use Rattle.table_file.proofs.Words.{drop-append_seam, le-ltb, lt-ltb, drop-append-le, drop-drop, length-append, length-drop, prime, little_number}
+use Rattle.table_file.proofs.Words.{little_from-take, Bad, element_at, number_at, StandsAt}
 use Rattle.table_file.specs.declared.cause.FileCause.TheVariants as cause
-use Rattle.table_file.specs.declared.cause.FileError.TheVariants.{Bad}
-use Rattle.table_file.specs.Fields.{element_at, number_at}
-use Rattle.table_file.specs.Reading.{StandsAt}
 
 -- a number is that of its own bytes, whatever stands behind them
 pub little-front : (size : ℕ) (xs more : List ℕ) → size ≤ length xs → little_number size (xs ++ more) ≡ little_number size xs

@@ -1,18 +1,9 @@
 -- A trace that is read row by row: what each step leaves of the file.
-use Rattle.std.proofs.Common.{◌≡◌, ℕ, suc, ◌+◌, ◌*◌, ◌<◌, ◌≤◌, ◌-◌, List, [], ◌∷◌, ◌++◌, drop, take, get_or, set, length, Result, Ok, Err, refl, sym, ap, ap₂, subst, ◌∙◌, arith, append_assoc, append-nil}
-use Rattle.std.proofs.lemmas.Bool.{le-ltb, lt-ltb}
-use Rattle.std.proofs.lemmas.List.{drop-set, drop_all, drop_more, length-append, length-drop}
-use Rattle.air_kit.specs.Tables.{columns, every_table}
-use Rattle.air_kit.specs.Traces.{rows_of}
-use Rattle.air_kit.specs.declared.trace.TableName.{TableName}
-use Rattle.air_kit.specs.declared.trace.Trace.{Trace}
+use Rattle.table_file.proofs.Words.{◌≡◌, ℕ, suc, ◌+◌, ◌*◌, ◌<◌, ◌≤◌, ◌-◌, List, [], ◌∷◌, ◌++◌, drop, take, get_or, set, length, Result, Ok, Err, refl, sym}
+use Rattle.table_file.proofs.Words.{ap, ap₂, subst, ◌∙◌, arith, append_assoc, append-nil, le-ltb, lt-ltb, drop-set, drop_all, drop_more, length-append}
+use Rattle.table_file.proofs.Words.{length-drop, columns, every_table, rows_of, TableName, Trace, FileError, Bad, Memory, PartTrace, GivesRead, behind}
+use Rattle.table_file.proofs.Words.{parts_at, row_at, rows_at, ended_at, tables_from, with_rows, ReadsRows, StandsAt, rest_of}
 use Rattle.table_file.specs.declared.cause.FileCause.TheVariants as cause
-use Rattle.table_file.specs.declared.cause.FileError.{FileError}
-use Rattle.table_file.specs.declared.cause.FileError.TheVariants.{Bad, Memory}
-use Rattle.table_file.specs.declared.part_trace.PartTrace.{PartTrace}
-use Rattle.table_file.specs.Fields.{GivesRead, behind, parts_at, row_at, rows_at}
-use Rattle.table_file.specs.Files.{ended_at, tables_from, with_rows}
-use Rattle.table_file.specs.Reading.{ReadsRows, StandsAt, rest_of}
 use Rattle.table_file.proofs.Chains.{bad-read}
 use Rattle.table_file.proofs.Going.{parts_stop}
 use Rattle.table_file.proofs.TablesByName.{Rows, name_at, rows_behind, rows_same, tables_at}

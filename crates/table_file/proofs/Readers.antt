@@ -1,20 +1,11 @@
 -- A reader of a table file: what a head, rows and further bytes leave of the file.
-use Rattle.std.proofs.Common.{◌≡◌, ℕ, ◌+◌, ◌*◌, ◌≤◌, ◌==◌, Bool, true, false, List, [], ◌∷◌, ◌++◌, drop, take, length, Option, Some, None, Result, Ok, Err, inl, inr, refl, sym, ap, subst, ◌∙◌, arith, append_assoc, append-nil}
-use Rattle.std.proofs.Math.Seq.{drop-append_seam, take-add}
-use Rattle.std.proofs.lemmas.Bool.{le-ltb}
-use Rattle.std.proofs.lemmas.List.{drop-append-le, length-append, length-drop, length-take-le, nil_from_length, take_all, take-append-drop}
-use Rattle.std.specs.Option.{is_some}
-use Rattle.byteorder.specs.Endian.{little_number}
-use Rattle.air_kit.specs.Tables.{every_table}
-use Rattle.air_kit.specs.declared.trace.TableName.{TableName}
-use Rattle.air_kit.specs.declared.trace.Trace.{Trace}
-use Rattle.table_file.specs.declared.cause.FileCause.{FileCause}
+use Rattle.table_file.proofs.Words.{◌≡◌, ℕ, ◌+◌, ◌*◌, ◌≤◌, ◌==◌, Bool, true, false, List, [], ◌∷◌, ◌++◌, drop, take, length, Option, Some, None, Result, Ok}
+use Rattle.table_file.proofs.Words.{Err, inl, inr, refl, sym, ap, subst, ◌∙◌, arith, append_assoc, append-nil, drop-append_seam, take-add, le-ltb}
+use Rattle.table_file.proofs.Words.{drop-append-le, length-append, length-drop, length-take-le, nil_from_length, take_all, take-append-drop, is_some}
+use Rattle.table_file.proofs.Words.{little_number, every_table, TableName, Trace, FileCause, FileError, PartTrace, GivesRead, behind, number_at, counts_at}
+use Rattle.table_file.proofs.Words.{head_of, is_version, magic, may_have_in, no_rows, tables_from, trace_of, Advances, GoesFurther, ReadsBehind, HasRead}
+use Rattle.table_file.proofs.Words.{HasTaken, IsMissing, IsReady, Reader, StandsAt, rest_of}
 use Rattle.table_file.specs.declared.cause.FileCause.TheVariants as cause
-use Rattle.table_file.specs.declared.cause.FileError.{FileError}
-use Rattle.table_file.specs.declared.part_trace.PartTrace.{PartTrace}
-use Rattle.table_file.specs.Fields.{GivesRead, behind, number_at}
-use Rattle.table_file.specs.Files.{counts_at, head_of, is_version, magic, may_have_in, no_rows, tables_from, trace_of}
-use Rattle.table_file.specs.Reading.{Advances, GoesFurther, ReadsBehind, HasRead, HasTaken, IsMissing, IsReady, Reader, StandsAt, rest_of}
 use Rattle.table_file.proofs.Chains.{bad-read, goes_past, same_next}
 use Rattle.table_file.proofs.HeadLaws.{head-says}
 use Rattle.table_file.proofs.PartReading.{little-front, stands_behind}

@@ -1,14 +1,9 @@
 -- Rows of a table that are read one after the other, from bytes that stand at a place.
-use Rattle.std.proofs.Common.{◌≡◌, ◌⊎◌, ℕ, suc, ◌+◌, ◌-◌, ◌*◌, ◌<◌, ◌≤◌, List, [], ◌∷◌, ◌++◌, drop, take, length, Result, Ok, Err, inl, inr, refl, sym, ap, subst, ◌∙◌, arith, append_assoc, append-nil}
+use Rattle.table_file.proofs.Words.{◌≡◌, ◌⊎◌, ℕ, suc, ◌+◌, ◌-◌, ◌*◌, ◌<◌, ◌≤◌, List, [], ◌∷◌, ◌++◌, drop, take, length, Result, Ok, Err, inl, inr, refl, sym}
+use Rattle.table_file.proofs.Words.{ap, subst, ◌∙◌, arith, append_assoc, append-nil, take-add, lt-ltb, length-take-le, take-append-drop, FileError, Bad}
+use Rattle.table_file.proofs.Words.{GivesRead, behind, element_at, number_at, row_at, rows_at, ReadsRows, StandsAt}
 use Rattle.std.proofs.Math.Nat.{mul-suc}
-use Rattle.std.proofs.Math.Seq.{take-add}
-use Rattle.std.proofs.lemmas.Bool.{lt-ltb}
-use Rattle.std.proofs.lemmas.List.{length-take-le, take-append-drop}
 use Rattle.table_file.specs.declared.cause.FileCause.TheVariants as cause
-use Rattle.table_file.specs.declared.cause.FileError.{FileError}
-use Rattle.table_file.specs.declared.cause.FileError.TheVariants.{Bad}
-use Rattle.table_file.specs.Fields.{GivesRead, behind, element_at, number_at, row_at, rows_at}
-use Rattle.table_file.specs.Reading.{ReadsRows, StandsAt}
 use Rattle.table_file.proofs.Chains.{bad-read}
 use Rattle.table_file.proofs.Going.{goes_behind, parts_stop}
 use Rattle.table_file.proofs.PartReading.{stands_back, stands_front}

@@ -1,14 +1,9 @@
 -- Laws of tables: those of parts, twice.
-use Rattle.std.proofs.Common.{◌≡◌, ℕ, zero, suc, ◌+◌, ◌*◌, ◌^◌, ◌<◌, nat_lt, List, [], ◌∷◌, ◌++◌, length, drop, get_or, All, Ok, inl, inr, refl, sym, subst, arith, lit<}
-use Rattle.std.proofs.lemmas.Bool.{cases_lt, ltb-true, lt-ltb}
-use Rattle.std.proofs.lemmas.List.{get_or_past}
-use Rattle.vm_field.specs.Field.{prime}
+use Rattle.table_file.proofs.Words.{◌≡◌, ℕ, zero, suc, ◌+◌, ◌*◌, ◌^◌, ◌<◌, nat_lt, List, [], ◌∷◌, ◌++◌, length, drop, get_or, All, Ok, inl, inr, refl, sym}
+use Rattle.table_file.proofs.Words.{subst, arith, lit<, cases_lt, ltb-true, lt-ltb, get_or_past, prime, IsTable, little_bytes, length-bytes_low_first}
+use Rattle.table_file.proofs.Words.{element_at, row_at, rows_at, row_bytes, table_bytes, parts_at}
 use Rattle.vm_field.proofs.Elements.{elements-index}
-use Rattle.vm_table.specs.Layout.{IsTable}
-use Rattle.byteorder.specs.Endian.{little_bytes}
-use Rattle.byteorder.specs.Numbers.{length-bytes_low_first}
 use Rattle.table_file.specs.declared.cause.FileCause.TheVariants as cause
-use Rattle.table_file.specs.Fields.{element_at, row_at, rows_at, row_bytes, table_bytes, parts_at}
 use Rattle.table_file.proofs.NumberLaws.{AreBytes, number-tested, number-written, number-reads}
 use Rattle.table_file.proofs.PartLaws.{behind_part, parts-count, parts-have, parts-written, parts-wide, parts-read}
 

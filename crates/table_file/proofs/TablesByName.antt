@@ -1,15 +1,8 @@
 -- Tables by name and by place.
-use Rattle.std.proofs.Common.{◌≡◌, ℕ, suc, ◌+◌, ◌*◌, ◌<◌, ◌≤◌, List, [], ◌∷◌, ◌++◌, drop, get_or, length, map, Option, slice_get, unwrap_or, refl, ap, ◌∙◌, arith}
-use Rattle.std.proofs.Math.Seq.{drop-cons}
-use Rattle.std.proofs.lemmas.List.{get_or-map}
+use Rattle.table_file.proofs.Words.{◌≡◌, ℕ, suc, ◌+◌, ◌*◌, ◌<◌, ◌≤◌, List, [], ◌∷◌, ◌++◌, drop, get_or, length, map, Option, slice_get, unwrap_or, refl, ap}
+use Rattle.table_file.proofs.Words.{◌∙◌, arith, drop-cons, get_or-map, columns, every_table, rows_of, TableName, Trace, no_rows, with_rows, row_sizes}
 use Rattle.std.proofs.lemmas.Option.{slice_get_past, unwrap_or-slice_get}
-use Rattle.air_kit.specs.Tables.{columns, every_table}
-use Rattle.air_kit.specs.Traces.{rows_of}
-use Rattle.air_kit.specs.declared.trace.TableName.{TableName}
 use Rattle.air_kit.specs.declared.trace.TableName.TheVariants as table
-use Rattle.air_kit.specs.declared.trace.Trace.{Trace}
-use Rattle.table_file.specs.Files.{no_rows, with_rows}
-use Rattle.table_file.specs.Reading.{row_sizes}
 
 abbrev pub Rows : Type 0
 Rows = List (List ℕ)

@@ -1,10 +1,5 @@
 -- What holds of the trace that bytes read as.
-use Rattle.std.proofs.Common.{List, ℕ, Result, Ok, Err, IfOk}
-use Rattle.air_kit.specs.Traces.{HasCounts}
-use Rattle.air_kit.specs.declared.trace.Trace.{Trace}
-use Rattle.table_file.specs.declared.cause.FileError.{FileError}
-use Rattle.table_file.specs.Fields.{GivesRead}
-use Rattle.table_file.specs.Files.{AreTables, trace_of}
+use Rattle.table_file.proofs.Words.{List, ℕ, Result, Ok, Err, IfOk, HasCounts, Trace, FileError, GivesRead, AreTables, trace_of}
 use Rattle.table_file.proofs.FileLaws.{counts-may, tables-shaped}
 
 pub read-counts : (bytes : List ℕ) (r : Result Trace FileError) → GivesRead r (trace_of bytes) → IfOk r HasCounts

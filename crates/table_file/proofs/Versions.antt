@@ -1,12 +1,9 @@
 -- How many rows a table may have in a file of a version.
-use Rattle.std.proofs.Common.{◌≡◌, ℕ, ◌^◌, ◌<◌, ◌≤◌, ◌&&◌, Bool, true, false, ◌==◌, nat_le, inl, inr, refl, arith}
-use Rattle.std.proofs.lemmas.Bool.{and_parts, eqb-true, le-leb, leb-true, ne_eqb, or_cases}
-use Rattle.air_kit.specs.Traces.{IsCount, most_rows}
-use Rattle.air_kit.specs.declared.trace.TableName.{TableName}
+use Rattle.table_file.proofs.Words.{◌≡◌, ℕ, ◌^◌, ◌<◌, ◌≤◌, ◌&&◌, Bool, true, false, ◌==◌, nat_le, inl, inr, refl, arith, and_parts, eqb-true, le-leb}
+use Rattle.table_file.proofs.Words.{leb-true, ne_eqb, or_cases, IsCount, most_rows, TableName, first_version, is_version, may_have_in, most_in, this_version}
 use Rattle.air_kit.specs.declared.trace.TableName.TheVariants as table
 use Rattle.air_kit.specs.Counts.{may_have}
 use Rattle.air_kit.proofs.CountLaws.{is_count, may_have_if}
-use Rattle.table_file.specs.Files.{first_version, is_version, may_have_in, most_in, this_version}
 
 -- a version fits its bytes
 pub version_fits : (version : ℕ) → is_version version ≡ true → version < 256 ^ 4

@@ -1,6 +1,5 @@
-use Rattle.std.proofs.Common.{refl, ap, arith}
+use Rattle.sound_evidence.proofs.Words.{refl, ap, arith, placed_of}
 use Rattle.vm_ops.specs.declared.op.Op.TheVariants as ops
-use Rattle.tree_merge.specs.AddrView.{placed_of}
 use Rattle.tree_merge.specs.Placed as placed
 use Rattle.sound_evidence.proofs.ReadRows.{bits_at}
 use Rattle.sound_evidence.proofs.BlockFound.{call_found, call_small, child_later, dyn_found, dyn_small, end_within, join_found, join_small, second_starts, skipped_found, skipped_small, split_one_found, split_small, split_zero_found, starts_by, syscall_found, syscall_small, top_one, top_other, wraps}

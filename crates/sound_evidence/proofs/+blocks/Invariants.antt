@@ -1,7 +1,5 @@
 -- Each call goes to a later row; within a block, `block` calls `looped`, and this `turns`.
-use Rattle.std.proofs.Common.{◌+◌, ◌-◌, ◌*◌, length}
-use Rattle.tree_merge.specs.AddrView.{placed_of}
-use Rattle.sound_evidence.specs.Walking.{Takes}
+use Rattle.sound_evidence.proofs.Words.{◌+◌, ◌-◌, ◌*◌, length, placed_of, Takes}
 use Rattle.sound_evidence.proofs.Turning.{Turning}
 use Rattle.sound_evidence.proofs.+blocks.Given as goal
 

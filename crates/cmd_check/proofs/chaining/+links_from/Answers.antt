@@ -1,7 +1,6 @@
-use Rattle.std.proofs.Common.{◌+◌, drop, map, ◌∙◌}
-use Rattle.rpo_hash.specs.Constants.{constants_of}
+use Rattle.cmd_check.proofs.Words.{◌+◌, map, ◌∙◌, constants_of, link_from}
+use Rattle.std.proofs.Common.{drop}
 use Rattle.cmd_kit.specs.ChainSteps.{chain_link}
-use Rattle.cmd_check.specs.Judging.{link_from}
 use Rattle.cmd_check.proofs.ChainLemmas.{ends_behind_link, no_links}
 use Rattle.cmd_check.proofs.chaining.+links_from.Goals as goal
 

@@ -1,4 +1,4 @@
-use Rattle.std.proofs.Common.{arith, map}
+use Rattle.cmd_check.proofs.Words.{arith, map}
 use Rattle.cmd_kit.proofs.LineLemmas.{line_at, short_at, two_names}
 use Rattle.cmd_check.proofs.chaining.files_of_link.Goals as goal
 

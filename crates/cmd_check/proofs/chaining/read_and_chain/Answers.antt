@@ -1,5 +1,4 @@
-use Rattle.std.proofs.Common.{[], refl}
-use Rattle.rpo_hash.specs.Constants.{constants_of}
+use Rattle.cmd_check.proofs.Words.{[], refl, constants_of}
 use Rattle.cmd_check.proofs.ChainLemmas.{ends_behind_list}
 use Rattle.cmd_check.proofs.chaining.read_and_chain.Goals as goal
 

@@ -1,4 +1,4 @@
-use Rattle.cmd_kit.proofs.OutcomeLemmas.{says_line}
+use Rattle.cmd_check.proofs.Words.{says_line}
 use Rattle.cmd_check.proofs.ChainLemmas.{saved_chain}
 use Rattle.cmd_check.proofs.chaining.save_chain.Goals as goal
 

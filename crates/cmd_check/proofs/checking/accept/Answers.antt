@@ -1,9 +1,5 @@
-use Rattle.std.proofs.Common.{◌∙◌}
-use Rattle.rpo_hash.specs.Constants.{constants_of}
-use Rattle.statement.specs.Statements.{stated_of}
-use Rattle.cmd_kit.specs.Steps.{ending, evidence_for, telling}
+use Rattle.cmd_check.proofs.Words.{◌∙◌, constants_of, stated_of, ending, evidence_for, telling, says_line}
 use Rattle.cmd_check.proofs.CheckLemmas.{evidence_is_right, told_ends}
-use Rattle.cmd_kit.proofs.OutcomeLemmas.{says_line}
 use Rattle.cmd_check.proofs.checking.accept.Goals as goal
 
 pub returns-in-Ok-save : goal.returns-in-Ok-save

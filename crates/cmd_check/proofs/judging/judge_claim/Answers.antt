@@ -1,5 +1,4 @@
-use Rattle.rpo_hash.specs.Constants.{constants_of}
-use Rattle.cmd_check.specs.Judging.{judged_of}
+use Rattle.cmd_check.proofs.Words.{constants_of, judged_of}
 use Rattle.cmd_check.proofs.ChainLemmas.{accepted_goes_on, always, broken_ends, lent_cells, memory_ends, refused_ends_link}
 use Rattle.cmd_check.proofs.judging.judge_claim.Goals as goal
 

@@ -1,6 +1,4 @@
-use Rattle.rpo_hash.specs.Constants.{constants_of}
-use Rattle.statement.specs.Statements.{stated_of}
-use Rattle.cmd_check.specs.Judging.{link_from}
+use Rattle.cmd_check.proofs.Words.{constants_of, stated_of, link_from}
 use Rattle.cmd_check.proofs.ChainLemmas.{ends_if, ends_judged}
 use Rattle.cmd_check.proofs.judging.judge_link.Goals as goal
 

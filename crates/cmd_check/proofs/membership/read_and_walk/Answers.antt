@@ -1,7 +1,4 @@
-use Rattle.std.proofs.Common.{◌∙◌}
-use Rattle.rpo_hash.specs.Constants.{constants_of}
-use Rattle.block_tree.specs.TreeView.{tree_of}
-use Rattle.statement.specs.Statements.{stated_of}
+use Rattle.cmd_check.proofs.Words.{◌∙◌, constants_of, tree_of, stated_of}
 use Rattle.cmd_check.proofs.WalkLemmas.{walk_ends, walk_gives_up}
 use Rattle.cmd_check.proofs.membership.read_and_walk.Goals as goal
 

@@ -1,4 +1,4 @@
-use Rattle.block_tree.specs.TreeView.{tree_of}
+use Rattle.cmd_check.proofs.Words.{tree_of}
 use Rattle.cmd_check.proofs.SourcingLemmas.{apart_ends}
 use Rattle.cmd_check.proofs.sourcing.accept_for.Goals as goal
 

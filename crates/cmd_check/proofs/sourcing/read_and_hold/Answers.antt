@@ -1,6 +1,5 @@
 use Rattle.std.proofs.lemmas.Result.{err_from_is_err_and}
-use Rattle.rpo_hash.specs.Constants.{constants_of}
-use Rattle.statement.specs.Statements.{stated_of}
+use Rattle.cmd_check.proofs.Words.{constants_of, stated_of}
 use Rattle.cmd_kit.specs.Sources.{file_of}
 use Rattle.cmd_kit.proofs.LentFiles.{lent_files}
 use Rattle.cmd_check.proofs.SourcingLemmas.{built_ends, unbuilt_ends}

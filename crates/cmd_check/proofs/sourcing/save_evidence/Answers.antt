@@ -1,10 +1,4 @@
-use Rattle.std.proofs.Common.{◌∙◌}
-use Rattle.rpo_hash.specs.Constants.{constants_of}
-use Rattle.statement.specs.Statements.{stated_of}
-use Rattle.cmd_kit.specs.CheckSourceSteps.{sourced_steps}
-use Rattle.cmd_kit.specs.Steps.{ending, source_evidence_for, telling_source}
-use Rattle.cmd_kit.proofs.OutcomeLemmas.{says_line}
-use Rattle.cmd_kit.proofs.ServingLemmas.{same_again}
+use Rattle.cmd_check.proofs.Words.{◌∙◌, constants_of, stated_of, sourced_steps, ending, source_evidence_for, telling_source, says_line, same_again}
 use Rattle.cmd_check.proofs.SourcingLemmas.{right_text, told_source}
 use Rattle.cmd_check.proofs.sourcing.save_evidence.Goals as goal
 

@@ -1,4 +1,4 @@
-use Rattle.block_tree.specs.TreeView.{tree_of}
+use Rattle.cmd_check.proofs.Words.{tree_of}
 use Rattle.cmd_check.proofs.SourceSize.{has_room}
 use Rattle.cmd_check.proofs.sourcing.sourced.Goals as goal
 

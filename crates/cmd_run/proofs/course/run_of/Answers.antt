@@ -1,7 +1,5 @@
-use Rattle.rpo_hash.specs.Constants.{constants_of}
-use Rattle.statement.specs.Inputs.{given_of}
+use Rattle.cmd_run.proofs.Words.{constants_of, given_of, limit_line, trap_line, trapped, unended}
 use Rattle.cmd_kit.specs.declared.status.Status.TheVariants as status
-use Rattle.cmd_kit.specs.RunEnds.{limit_line, trap_line, trapped, unended}
 use Rattle.cmd_run.proofs.CourseLemmas.{halt_says}
 use Rattle.cmd_run.proofs.course.run_of.Goals as goal
 

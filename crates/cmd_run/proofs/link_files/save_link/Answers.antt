@@ -1,6 +1,4 @@
-use Rattle.statement.specs.Inputs.{given_of}
-use Rattle.table_file.specs.Files.{bytes_of}
-use Rattle.cmd_run.specs.Naming.{outputs_from}
+use Rattle.cmd_run.proofs.Words.{given_of, bytes_of, outputs_from}
 use Rattle.cmd_run.proofs.LinkLemmas.{link_saved, link_unsaved, no_memory_saves, on_err, on_ok}
 use Rattle.cmd_run.proofs.link_files.save_link.Goals as goal
 

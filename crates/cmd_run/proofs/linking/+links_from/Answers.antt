@@ -1,9 +1,7 @@
 use Rattle.std.proofs.Common.{◌+◌, ◌<◌, ◌≤◌, drop, length, map, arith, ◌∙◌}
-use Rattle.rpo_hash.specs.Constants.{constants_of}
-use Rattle.vm_field.specs.Limits.{most_inputs}
+use Rattle.cmd_run.proofs.Words.{constants_of, most_inputs, link_from}
 use Rattle.cmd_kit.proofs.OutcomeLemmas.{says_line}
 use Rattle.cmd_kit.specs.RunsSteps.{run_link}
-use Rattle.cmd_run.specs.Linking.{link_from}
 use Rattle.cmd_run.proofs.LinkLemmas.{breaks_here, goes_to_next, has_many, lent_cells, may_go_on, no_links}
 use Rattle.cmd_run.proofs.linking.+links_from.Goals as goal
 use Rattle.cmd_run.proofs.linking.+links_from.Goals.{else-before-len-2-via-then-before-len-2+else-len-gt-MOST_INPUTS, else-before-len-2-via-else-before-len-2}

@@ -1,4 +1,4 @@
-use Rattle.statement.specs.Inputs.{given_of}
+use Rattle.cmd_run.proofs.Words.{given_of}
 use Rattle.cmd_run.proofs.LinkLemmas.{two_stacks}
 use Rattle.cmd_run.proofs.linking.begun.Goals as goal
 

@@ -1,4 +1,4 @@
-use Rattle.rpo_hash.specs.Constants.{constants_of}
+use Rattle.cmd_run.proofs.Words.{constants_of}
 use Rattle.cmd_run.proofs.LinkLemmas.{ends_behind_list}
 use Rattle.cmd_run.proofs.linking.read_and_run_links.Goals as goal
 

@@ -1,4 +1,4 @@
-use Rattle.rpo_hash.specs.Constants.{constants_of}
+use Rattle.cmd_run.proofs.Words.{constants_of}
 use Rattle.cmd_run.proofs.LinkLemmas.{ends_in_lines}
 use Rattle.cmd_run.proofs.linking.run_lines.Goals as goal
 

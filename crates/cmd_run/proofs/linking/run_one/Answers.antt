@@ -1,7 +1,4 @@
-use Rattle.rpo_hash.specs.Constants.{constants_of}
-use Rattle.statement.specs.Inputs.{given_of}
-use Rattle.cmd_kit.specs.Sources.{file_of}
-use Rattle.cmd_run.specs.Linking.{link_from}
+use Rattle.cmd_run.proofs.Words.{constants_of, given_of, file_of, link_from}
 use Rattle.cmd_run.proofs.LinkLemmas.{ends_running, goes_running, on_err, on_ok}
 use Rattle.cmd_run.proofs.linking.run_one.Goals as goal
 

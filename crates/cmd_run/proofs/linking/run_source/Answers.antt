@@ -1,7 +1,4 @@
-use Rattle.rpo_hash.specs.Constants.{constants_of}
-use Rattle.statement.specs.Inputs.{given_of}
-use Rattle.cmd_kit.specs.Sources.{file_of}
-use Rattle.cmd_run.specs.Naming.{outputs_from}
+use Rattle.cmd_run.proofs.Words.{constants_of, given_of, file_of, outputs_from}
 use Rattle.cmd_run.proofs.LinkLemmas.{both_ok, came_ends_saving, came_goes, on_err, stopped_of_link}
 use Rattle.cmd_run.proofs.linking.run_source.Goals as goal
 

@@ -1,5 +1,4 @@
-use Rattle.statement.specs.Inputs.{given_of}
-use Rattle.table_file.specs.Files.{bytes_of}
+use Rattle.cmd_run.proofs.Words.{given_of, bytes_of}
 use Rattle.cmd_run.proofs.RunLemmas.{saved_ends, unsaved_ends}
 use Rattle.cmd_run.proofs.ran.save_run.Goals as goal
 

@@ -1,7 +1,5 @@
 use Rattle.std.proofs.lemmas.Result.{err_from_is_err_and}
-use Rattle.rpo_hash.specs.Constants.{constants_of}
-use Rattle.statement.specs.Inputs.{given_of}
-use Rattle.cmd_kit.specs.Sources.{file_of}
+use Rattle.cmd_run.proofs.Words.{constants_of, given_of, file_of}
 use Rattle.cmd_kit.proofs.LentFiles.{lent_files}
 use Rattle.cmd_run.proofs.RunLemmas.{came_ends, stopped_ends}
 use Rattle.cmd_run.proofs.RunReads.{ends_at_source, ends_at_inputs, ends_at_kernel, ends_running}

@@ -1,4 +1,4 @@
-use Rattle.std.proofs.Common.{◌∙◌}
+use Rattle.fill_chips.proofs.Words.{◌∙◌}
 use Rattle.fill_chips.proofs.BitLemmas.{row-is}
 use Rattle.fill_chips.proofs.bitwise.bit_row.Goals as goal
 

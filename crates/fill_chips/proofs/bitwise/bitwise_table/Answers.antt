@@ -1,8 +1,6 @@
-use Rattle.std.proofs.Common.{[], ◌∷◌, ◌++◌, false, get_or, take, sym, subst, ap, ◌∙◌}
-use Rattle.std.proofs.lemmas.List.{take_more}
-use Rattle.std.proofs.lemmas.List.Elements.{All-append, All-cons, All-nil}
-use Rattle.facts_bitwise.specs.BitRows.{rows_before, rows_of_bits}
-use Rattle.facts_bitwise.specs.BitTables.{HaveWords, HasWords}
+use Rattle.fill_chips.proofs.Words.{[], ◌∷◌, ◌++◌, false, get_or, take, sym, subst, ap, ◌∙◌, take_more, All-append, All-cons, All-nil, rows_of_bits}
+use Rattle.fill_chips.proofs.Words.{HaveWords, HasWords}
+use Rattle.facts_bitwise.specs.BitRows.{rows_before}
 use Rattle.fill_chips.proofs.BitLemmas.{rows-none, rows-push}
 use Rattle.fill_chips.proofs.bitwise.bitwise_table.Goals as goal
 

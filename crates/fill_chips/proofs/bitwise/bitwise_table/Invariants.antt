@@ -1,6 +1,4 @@
-use Rattle.std.proofs.Common.{◌≡◌, take}
-use Rattle.facts_bitwise.specs.BitRows.{rows_of_bits}
-use Rattle.facts_bitwise.specs.BitTables.{HaveWords}
+use Rattle.fill_chips.proofs.Words.{◌≡◌, take, rows_of_bits, HaveWords}
 use Rattle.fill_chips.proofs.bitwise.bitwise_table.Given as goal
 
 abbrev pub invariant-loop-op : goal.invariant-loop-op

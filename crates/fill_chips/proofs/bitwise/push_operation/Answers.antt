@@ -1,6 +1,4 @@
-use Rattle.std.proofs.Common.{◌≡◌, ◌*◌, ◌-◌, [], ◌∷◌, ◌++◌, sym, ap, ◌∙◌, append_assoc, add-one, arith}
-use Rattle.std.proofs.lemmas.List.{append-nil}
-use Rattle.facts_bitwise.specs.BitRows.{row_without}
+use Rattle.fill_chips.proofs.Words.{◌≡◌, ◌*◌, ◌-◌, [], ◌∷◌, ◌++◌, sym, ap, ◌∙◌, append_assoc, add-one, arith, append-nil, row_without}
 use Rattle.fill_chips.proofs.BitLemmas.{first_rows, first-all, first-more, first-none}
 use Rattle.fill_chips.proofs.bitwise.push_operation.Goals as goal
 

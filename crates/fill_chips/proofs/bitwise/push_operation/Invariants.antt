@@ -1,4 +1,4 @@
-use Rattle.std.proofs.Common.{◌≡◌, ◌++◌}
+use Rattle.fill_chips.proofs.Words.{◌≡◌, ◌++◌}
 use Rattle.fill_chips.proofs.BitLemmas.{first_rows}
 use Rattle.fill_chips.proofs.bitwise.push_operation.Given as goal
 

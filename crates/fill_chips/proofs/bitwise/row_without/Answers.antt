@@ -1,4 +1,4 @@
-use Rattle.std.proofs.Common.{sym, ◌∙◌}
+use Rattle.fill_chips.proofs.Words.{sym, ◌∙◌}
 use Rattle.fill_chips.proofs.BitLemmas.{without-is}
 use Rattle.fill_chips.proofs.bitwise.row_without.Goals as goal
 

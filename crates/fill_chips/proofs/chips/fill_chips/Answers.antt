@@ -1,13 +1,6 @@
-use Rattle.std.proofs.Common.{◌≡◌, ◌∷◌, [], ◌++◌, List, ℕ, ◌<◌, map, All, ap, ap₂, subst, ◌∙◌, arith}
-use Rattle.rpo_hash.specs.States.{IsState}
-use Rattle.vm_field.specs.Machine.{IsWord}
-use Rattle.facts_hasher.specs.PermRows.{rows_of_perms}
+use Rattle.fill_chips.proofs.Words.{◌≡◌, ◌∷◌, [], ◌++◌, List, ℕ, ◌<◌, map, All, ap, ap₂, subst, ◌∙◌, arith, IsState, IsWord, rows_of_perms, HaveWords}
+use Rattle.fill_chips.proofs.Words.{ShowsAccesses, kernel_rows, times_called, limbs_in, range_rows}
 use Rattle.facts_bitwise.specs.BitRows.{rows_of_bits as bit_rows}
-use Rattle.facts_bitwise.specs.BitTables.{HaveWords}
-use Rattle.facts_memory.specs.MemoryTables.{ShowsAccesses}
-use Rattle.fill_chips.specs.KernelRows.{kernel_rows, times_called}
-use Rattle.fill_chips.specs.MemoryLimbs.{limbs_in}
-use Rattle.fill_chips.specs.RangeRows.{range_rows}
 use Rattle.fill_chips.proofs.AccessLemmas.{rows-shown}
 use Rattle.fill_chips.proofs.ChipAnswers.{filled-answers, filled-sizes}
 use Rattle.fill_chips.proofs.chips.fill_chips.Goals as goal

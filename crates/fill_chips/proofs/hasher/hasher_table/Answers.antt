@@ -1,8 +1,5 @@
-use Rattle.std.proofs.Common.{◌≡◌, ◌+◌, ◌*◌, ◌<◌, ◌≤◌, ◌++◌, ◌-◌, ◌∙◌, All, drop, length, take, sym, subst, ap, arith}
-use Rattle.std.proofs.Math.Seq.{take_all}
-use Rattle.std.proofs.lemmas.List.Elements.{All-append, All-nil}
-use Rattle.rpo_hash.specs.States.{IsState}
-use Rattle.facts_hasher.specs.PermRows.{rows_of_perms}
+use Rattle.fill_chips.proofs.Words.{◌≡◌, ◌+◌, ◌*◌, ◌<◌, ◌≤◌, ◌++◌, ◌-◌, ◌∙◌, All, drop, length, take, sym, subst, ap, arith, take_all, All-append, All-nil}
+use Rattle.fill_chips.proofs.Words.{IsState, rows_of_perms}
 use Rattle.fill_chips.proofs.PermLemmas.{rows-append, rows-none}
 use Rattle.fill_chips.proofs.RoundLemmas.{round_more}
 use Rattle.fill_chips.proofs.hasher.hasher_table.Goals as goal

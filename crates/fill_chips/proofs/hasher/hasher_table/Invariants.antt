@@ -1,6 +1,4 @@
-use Rattle.std.proofs.Common.{◌≡◌, ◌*◌, All, length, min, take, vec_len}
-use Rattle.rpo_hash.specs.States.{IsState}
-use Rattle.facts_hasher.specs.PermRows.{rows_of_perms}
+use Rattle.fill_chips.proofs.Words.{◌≡◌, ◌*◌, All, length, min, take, vec_len, IsState, rows_of_perms}
 use Rattle.fill_chips.proofs.hasher.hasher_table.Given as goal
 
 abbrev pub invariant-loop-k : goal.invariant-loop-k

@@ -1,6 +1,4 @@
-use Rattle.std.proofs.lemmas.List.{append-nil}
-use Rattle.std.proofs.Common.{◌≡◌, ◌+◌, [], ◌∷◌, ◌++◌, false, sym, ap, ◌∙◌, append_assoc, add-one, arith}
-use Rattle.facts_hasher.specs.PermRows.{perm_row}
+use Rattle.fill_chips.proofs.Words.{append-nil, ◌≡◌, ◌+◌, [], ◌∷◌, ◌++◌, false, sym, ap, ◌∙◌, append_assoc, add-one, arith, perm_row}
 use Rattle.perm_memo.proofs.StateLemmas.{round_states-at}
 use Rattle.fill_chips.proofs.PermLemmas.{ok_then, first_rows, first-all, first-more, first-none, row-is}
 use Rattle.fill_chips.proofs.hasher.push_permutation.Goals as goal

@@ -1,5 +1,4 @@
-use Rattle.std.proofs.Common.{◌≡◌, ◌++◌, ℕ, List}
-use Rattle.perm_memo.specs.RoundStates.{round_states}
+use Rattle.fill_chips.proofs.Words.{◌≡◌, ◌++◌, ℕ, List, round_states}
 use Rattle.fill_chips.proofs.PermLemmas.{first_rows}
 use Rattle.fill_chips.proofs.hasher.push_permutation.Given as goal
 

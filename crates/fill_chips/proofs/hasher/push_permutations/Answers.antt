@@ -1,10 +1,6 @@
-use Rattle.std.proofs.Common.{◌≡◌, ◌+◌, ◌≤◌, [], ◌∷◌, ◌++◌, ◌∙◌, All, append_assoc, length, take, sym, subst, ap, arith}
-use Rattle.std.proofs.Math.Seq.{take_all}
-use Rattle.std.proofs.lemmas.List.{append-nil, take_more}
-use Rattle.std.proofs.lemmas.List.Elements.{All-append, All-cons, All-nil}
-use Rattle.rpo_hash.specs.States.{IsState}
-use Rattle.perm_memo.specs.RoundStates.{round_states}
-use Rattle.facts_hasher.specs.PermRows.{rows_before, rows_of_perms}
+use Rattle.fill_chips.proofs.Words.{◌≡◌, ◌+◌, ◌≤◌, [], ◌∷◌, ◌++◌, ◌∙◌, All, append_assoc, length, take, sym, subst, ap, arith, take_all, append-nil}
+use Rattle.fill_chips.proofs.Words.{take_more, All-append, All-cons, All-nil, IsState, round_states, rows_of_perms}
+use Rattle.facts_hasher.specs.PermRows.{rows_before}
 use Rattle.fill_chips.proofs.PermLemmas.{rows-none, rows-push}
 use Rattle.fill_chips.proofs.RoundLemmas.{state_of_index}
 use Rattle.fill_chips.proofs.hasher.push_permutations.Goals as goal

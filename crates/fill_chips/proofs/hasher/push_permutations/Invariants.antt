@@ -1,7 +1,4 @@
-use Rattle.std.proofs.Common.{◌≡◌, ◌++◌, ℕ, List, All, take}
-use Rattle.rpo_hash.specs.States.{IsState}
-use Rattle.facts_hasher.specs.PermRows.{rows_of_perms}
-use Rattle.fill_chips.specs.Rounds.{states_of}
+use Rattle.fill_chips.proofs.Words.{◌≡◌, ◌++◌, ℕ, List, All, take, IsState, rows_of_perms, states_of}
 use Rattle.fill_chips.proofs.hasher.push_permutations.Given as goal
 
 abbrev pub invariant-loop-i : goal.invariant-loop-i

@@ -1,4 +1,4 @@
-use Rattle.std.proofs.Common.{◌≡◌, [], ◌∷◌}
+use Rattle.fill_chips.proofs.Words.{◌≡◌, [], ◌∷◌}
 use Rattle.rpo_hash.proofs.Lists.{twelve_elements}
 use Rattle.fill_chips.proofs.hasher.row_of.Goals as goal
 

@@ -1,7 +1,5 @@
-use Rattle.std.proofs.Common.{◌≡◌, ℕ, nat_eq, unwrap_or, List, ◌++◌, length, sym, ap, ◌∙◌, arith}
-use Rattle.std.proofs.lemmas.List.Sums.{count_by-le-length}
-use lib.Pointwise.{pointwise}
-use Rattle.fill_chips.specs.KernelRows.{kernel_rows, times_called, without}
+use Rattle.fill_chips.proofs.Words.{◌≡◌, ℕ, nat_eq, unwrap_or, List, ◌++◌, length, sym, ap, ◌∙◌, arith, count_by-le-length, pointwise, kernel_rows}
+use Rattle.fill_chips.proofs.Words.{times_called, without}
 use Rattle.fill_chips.proofs.KernelLemmas.{rows-alike, rows-done, rows-step, times_in, without-few, without-is}
 use Rattle.fill_chips.proofs.kernel.kernel_table.Goals as goal
 

@@ -1,5 +1,4 @@
-use Rattle.std.proofs.Common.{◌≡◌, ◌≤◌, List, ◌++◌, ℕ, length, drop}
-use Rattle.fill_chips.specs.KernelRows.{kernel_rows, times_called}
+use Rattle.fill_chips.proofs.Words.{◌≡◌, ◌≤◌, List, ◌++◌, ℕ, length, drop, kernel_rows, times_called}
 use Rattle.fill_chips.proofs.KernelLemmas.{times_in}
 use Rattle.fill_chips.proofs.kernel.kernel_table.Given as goal
 

@@ -1,4 +1,4 @@
-use Rattle.std.proofs.Common.{◌+◌, unwrap_or, ap, ◌∙◌, arith}
+use Rattle.fill_chips.proofs.Words.{◌+◌, unwrap_or, ap, ◌∙◌, arith}
 use Rattle.std.proofs.lemmas.Grind.{common_steps}
 use Rattle.fill_chips.proofs.TimesLemmas.{calls-few, calls-more}
 use Rattle.fill_chips.proofs.kernel.times_of.Goals as goal

@@ -1,7 +1,4 @@
-use Rattle.std.proofs.Common.{◌≡◌, List, ℕ, nat_eq, unwrap_or, take}
-use Rattle.std.specs.HashMap.{get}
-use lib.Pointwise.{pointwise}
-use Rattle.fill_chips.specs.KernelRows.{times_called}
+use Rattle.fill_chips.proofs.Words.{◌≡◌, List, ℕ, nat_eq, unwrap_or, take, get, pointwise, times_called}
 use Rattle.fill_chips.proofs.kernel.times_of.Given as goal
 
 abbrev pub invariant-loop-word : goal.invariant-loop-word

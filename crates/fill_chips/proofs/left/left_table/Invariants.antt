@@ -1,4 +1,4 @@
-use Rattle.std.proofs.Common.{◌≡◌, [], ◌∷◌, map, take}
+use Rattle.fill_chips.proofs.Words.{◌≡◌, [], ◌∷◌, map, take}
 use Rattle.fill_chips.proofs.left.left_table.Given as goal
 
 abbrev pub invariant-loop-key : goal.invariant-loop-key

@@ -1,6 +1,5 @@
-use Rattle.std.proofs.Common.{All, subst}
+use Rattle.fill_chips.proofs.Words.{All, subst, IsSmallAccess}
 use Rattle.std.proofs.lemmas.List.Sorted.{All-permutation, IsPermutation-sym}
-use Rattle.facts_memory.specs.MemoryTables.{IsSmallAccess}
 use Rattle.fill_chips.proofs.AccessLemmas.{if_ok_then}
 use Rattle.fill_chips.proofs.memory.memory_table.Goals as goal
 

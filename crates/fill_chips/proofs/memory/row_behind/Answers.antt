@@ -1,4 +1,4 @@
-use Rattle.std.proofs.Common.{◌≡◌, ◌/◌, ◌%◌, length, ap, ◌∙◌, arith, rules}
+use Rattle.fill_chips.proofs.Words.{◌≡◌, ◌/◌, ◌%◌, length, ap, ◌∙◌, arith, rules}
 use Rattle.std.proofs.lemmas.Grind.{get_or_default_zero}
 use Rattle.fill_chips.proofs.AccessLemmas.{row-is}
 use Rattle.fill_chips.proofs.memory.row_behind.Goals as goal

@@ -1,4 +1,4 @@
-use Rattle.std.proofs.Common.{rules}
+use Rattle.fill_chips.proofs.Words.{rules}
 use Rattle.std.proofs.lemmas.List.Sorted.{IsNonDecreasingBy-from_sort_by_key}
 use Rattle.facts_memory.specs.Accesses.{access_key}
 use Rattle.fill_chips.proofs.memory.sorted.Goals as goal

@@ -1,8 +1,5 @@
-use Rattle.std.proofs.Common.{◌≡◌, ◌+◌, [], ◌∷◌, ◌++◌, take, All, None, sym, subst, ap, ◌∙◌}
-use Rattle.std.proofs.lemmas.List.{take_more}
-use Rattle.std.proofs.lemmas.List.Elements.{All-append, All-cons, All-nil}
+use Rattle.fill_chips.proofs.Words.{◌≡◌, ◌+◌, [], ◌∷◌, ◌++◌, take, All, None, sym, subst, ap, ◌∙◌, take_more, All-append, All-cons, All-nil, IsSmallAccess}
 use Rattle.facts_memory.specs.AccessRows.{rows_behind}
-use Rattle.facts_memory.specs.MemoryTables.{IsSmallAccess}
 use Rattle.fill_chips.proofs.AccessLemmas.{no_first_step, rows-done, rows-step}
 use Rattle.fill_chips.proofs.memory.table_of.Goals as goal
 

@@ -1,6 +1,5 @@
-use Rattle.std.proofs.Common.{◌≡◌, ◌++◌, take, drop, All}
+use Rattle.fill_chips.proofs.Words.{◌≡◌, ◌++◌, take, drop, All, IsSmallAccess}
 use Rattle.facts_memory.specs.AccessRows.{rows_behind, rows_of_accesses}
-use Rattle.facts_memory.specs.MemoryTables.{IsSmallAccess}
 use Rattle.fill_chips.proofs.memory.table_of.Given as goal
 
 abbrev pub invariant-loop-access : goal.invariant-loop-access

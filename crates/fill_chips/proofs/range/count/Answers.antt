@@ -1,5 +1,4 @@
-use Rattle.std.proofs.Common.{ℕ, ◌<◌, slice_index, arith, length-set}
-use Rattle.std.proofs.lemmas.List.{get_or_read}
+use Rattle.fill_chips.proofs.Words.{ℕ, ◌<◌, slice_index, arith, length-set, get_or_read}
 use Rattle.fill_chips.proofs.TimesLemmas.{times-few, times-more}
 use Rattle.fill_chips.proofs.range.count.Goals as goal
 

@@ -1,5 +1,4 @@
-use Rattle.std.proofs.Common.{◌≡◌, ◌+◌, ℕ, length, slice_index, take}
-use Rattle.fill_chips.specs.RangeRows.{times_asked}
+use Rattle.fill_chips.proofs.Words.{◌≡◌, ◌+◌, ℕ, length, slice_index, take, times_asked}
 use Rattle.fill_chips.proofs.range.count.Given as goal
 
 abbrev pub invariant-loop-value : goal.invariant-loop-value

@@ -1,4 +1,4 @@
-use Rattle.std.proofs.Common.{◌≡◌, ℕ, ◌<◌, slice_index}
+use Rattle.fill_chips.proofs.Words.{◌≡◌, ℕ, ◌<◌, slice_index}
 use Rattle.fill_chips.proofs.range.next_of.Given as goal
 
 abbrev pub invariant-loop-value : goal.invariant-loop-value

@@ -1,7 +1,5 @@
-use Rattle.std.proofs.Common.{◌≡◌, ◌+◌, ◌-◌, ◌<◌, ◌++◌, length, sym, ap, subst, ◌∙◌, arith}
-use Rattle.std.proofs.lemmas.List.{length_push}
-use Rattle.fill_chips.specs.RangeRows.{AreTimes, allowed_steps, next_asked, step_within, value_behind}
-use Rattle.fill_chips.specs.MemoryLimbs.{limbs_in}
+use Rattle.fill_chips.proofs.Words.{◌≡◌, ◌+◌, ◌-◌, ◌<◌, ◌++◌, length, sym, ap, subst, ◌∙◌, arith, length_push, AreTimes, allowed_steps, next_asked}
+use Rattle.fill_chips.proofs.Words.{step_within, value_behind, limbs_in}
 use Rattle.fill_chips.proofs.LimbTimes.{times-below}
 use Rattle.fill_chips.proofs.NextLemmas.{next-is}
 use Rattle.fill_chips.proofs.RowsFrom.{behind-is, behind-last, behind-on, row-of_times, rows-done, rows-start, rows-step}

@@ -1,6 +1,4 @@
-use Rattle.std.proofs.Common.{◌≡◌, ◌-◌, ◌≤◌, ◌++◌, length}
-use Rattle.fill_chips.specs.MemoryLimbs.{limbs_in}
-use Rattle.fill_chips.specs.RangeRows.{range_rows, rows_from}
+use Rattle.fill_chips.proofs.Words.{◌≡◌, ◌-◌, ◌≤◌, ◌++◌, length, limbs_in, range_rows, rows_from}
 use Rattle.fill_chips.proofs.range.range_table.Given as goal
 
 abbrev pub invariant-loop-v : goal.invariant-loop-v

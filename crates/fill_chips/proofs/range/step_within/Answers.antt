@@ -1,5 +1,4 @@
-use Rattle.std.proofs.Common.{sym, ◌∙◌, arith}
-use Rattle.fill_chips.specs.RangeRows.{allowed_steps}
+use Rattle.fill_chips.proofs.Words.{sym, ◌∙◌, arith, allowed_steps}
 use Rattle.fill_chips.proofs.StepLemmas.{step-found, step-passed, step-past}
 use Rattle.fill_chips.proofs.range.step_within.Goals as goal
 

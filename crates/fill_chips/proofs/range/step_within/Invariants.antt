@@ -1,5 +1,4 @@
-use Rattle.std.proofs.Common.{◌≡◌, drop}
-use Rattle.fill_chips.specs.RangeRows.{allowed_steps, step_within}
+use Rattle.fill_chips.proofs.Words.{◌≡◌, drop, allowed_steps, step_within}
 use Rattle.fill_chips.proofs.range.step_within.Given as goal
 
 abbrev pub invariant-loop-step : goal.invariant-loop-step

@@ -1,4 +1,4 @@
-use Rattle.std.proofs.Common.{◌<◌, length, arith}
+use Rattle.fill_chips.proofs.Words.{◌<◌, length, arith}
 use Rattle.fill_chips.proofs.LimbTimes.{times-begun, times-room, times-row}
 use Rattle.fill_chips.proofs.range.times_of.Goals as goal
 

@@ -1,6 +1,4 @@
-use Rattle.std.proofs.Common.{◌++◌, take}
-use Rattle.fill_chips.specs.MemoryLimbs.{limbs_in}
-use Rattle.fill_chips.specs.RangeRows.{AreTimes}
+use Rattle.fill_chips.proofs.Words.{◌++◌, take, limbs_in, AreTimes}
 use Rattle.fill_chips.proofs.range.times_of.Given as goal
 
 abbrev pub invariant-loop-i : goal.invariant-loop-i

@@ -1,7 +1,5 @@
 -- Both halves are filled, and stand one behind the other.
-use Rattle.std.proofs.Common.{◌+◌, ◌-◌, ◌/◌, ◌≤◌, ◌<◌, length, arith, ◌∙◌}
-use Rattle.pieces.specs.Cuts.{cut_at}
-use Rattle.pieces.proofs.CutLemmas.{cut_grows}
+use Rattle.fill_chips.proofs.Words.{◌+◌, ◌-◌, ◌/◌, ◌≤◌, ◌<◌, length, arith, ◌∙◌, cut_at, cut_grows}
 use Rattle.fill_chips.proofs.RoundLemmas.{halves_filled, le_from, low_middle, middle_high, part_fits, first_length, second_length, piece_filled}
 use Rattle.fill_chips.proofs.rounds.+halves.Goals as goal
 

@@ -1,5 +1,5 @@
 -- Halves are less than the whole.
-use Rattle.std.proofs.Common.{◌+◌, ◌-◌, ◌*◌}
+use Rattle.fill_chips.proofs.Words.{◌+◌, ◌-◌, ◌*◌}
 use Rattle.fill_chips.proofs.rounds.+halves.Given as goal
 
 abbrev pub decreases-fill_halves : goal.decreases-fill_halves

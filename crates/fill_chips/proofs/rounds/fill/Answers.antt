@@ -1,7 +1,4 @@
-use Rattle.std.proofs.Common.{◌≡◌, ◌≤◌, ◌∙◌, [], length, get_or, sym, arith}
-use Rattle.std.proofs.lemmas.List.{length-map, ext_get_or}
-use Rattle.perm_memo.specs.RoundStates.{round_states}
-use Rattle.fill_chips.specs.Rounds.{states_of}
+use Rattle.fill_chips.proofs.Words.{◌≡◌, ◌≤◌, ◌∙◌, [], length, get_or, sym, arith, length-map, ext_get_or, round_states, states_of}
 use Rattle.fill_chips.proofs.rounds.fill.Goals as goal
 
 pub returns : goal.returns

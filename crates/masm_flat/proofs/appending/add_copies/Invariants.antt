@@ -1,5 +1,4 @@
-use Rattle.std.proofs.Common.{◌≡◌, ◌++◌, take}
-use Rattle.masm_flat.specs.Views.{pieces_of}
+use Rattle.masm_flat.proofs.Words.{◌≡◌, ◌++◌, take, pieces_of}
 use Rattle.masm_flat.proofs.appending.add_copies.Given as goal
 
 abbrev pub invariant-loop-piece : goal.invariant-loop-piece

@@ -1,7 +1,4 @@
-use Rattle.std.proofs.Common.{◌≡◌, ◌++◌, map, take}
-use Rattle.masm_flat.specs.Blocks.{Operation}
-use Rattle.masm_flat.specs.Lists.{digest_items}
-use Rattle.masm_flat.specs.Views.{pieces_of}
+use Rattle.masm_flat.proofs.Words.{◌≡◌, ◌++◌, map, take, Operation, digest_items, pieces_of}
 use Rattle.masm_flat.proofs.appending.add_digest.Given as goal
 
 abbrev pub invariant-loop-element : goal.invariant-loop-element

@@ -1,6 +1,4 @@
-use Rattle.std.proofs.Common.{◌≡◌, ◌++◌, map, take}
-use Rattle.masm_flat.specs.Blocks.{Operation}
-use Rattle.masm_flat.specs.Views.{pieces_of}
+use Rattle.masm_flat.proofs.Words.{◌≡◌, ◌++◌, map, take, Operation, pieces_of}
 use Rattle.masm_flat.proofs.appending.add_items.Given as goal
 
 abbrev pub invariant-loop-item : goal.invariant-loop-item

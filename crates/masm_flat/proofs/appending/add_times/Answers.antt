@@ -1,8 +1,5 @@
-use Rattle.std.proofs.Common.{◌≡◌, ◌+◌, ◌-◌, ◌++◌, append_assoc, append-nil, ap, sym, ◌∙◌, arith}
-use Rattle.std.proofs.lemmas.Bool.Decides.{nat_tests}
-use Rattle.std.proofs.lemmas.List.{nil_from_length}
-use Rattle.masm_flat.specs.Lists.{times}
-use Rattle.masm_flat.specs.Views.{pieces_of}
+use Rattle.masm_flat.proofs.Words.{◌≡◌, ◌+◌, ◌-◌, ◌++◌, append_assoc, ap, sym, ◌∙◌, arith, nat_tests, nil_from_length, times, pieces_of}
+use Rattle.std.proofs.Common.{append-nil}
 use Rattle.masm_flat.proofs.Served.{on_ok}
 use Rattle.masm_flat.proofs.Times.{times_more, times_of_none}
 use Rattle.masm_flat.proofs.appending.add_times.Goals as goal

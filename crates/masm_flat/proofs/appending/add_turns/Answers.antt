@@ -1,6 +1,4 @@
-use Rattle.std.proofs.Common.{◌++◌, append_assoc, ap, sym, ◌∙◌}
-use Rattle.masm_flat.specs.Lists.{times}
-use Rattle.masm_flat.specs.Views.{pieces_of}
+use Rattle.masm_flat.proofs.Words.{◌++◌, append_assoc, ap, sym, ◌∙◌, times, pieces_of}
 use Rattle.masm_flat.proofs.Times.{times_more}
 use Rattle.masm_flat.proofs.appending.add_turns.Goals as goal
 

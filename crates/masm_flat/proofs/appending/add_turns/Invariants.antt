@@ -1,6 +1,4 @@
-use Rattle.std.proofs.Common.{◌≡◌, ◌++◌}
-use Rattle.masm_flat.specs.Lists.{times}
-use Rattle.masm_flat.specs.Views.{pieces_of}
+use Rattle.masm_flat.proofs.Words.{◌≡◌, ◌++◌, times, pieces_of}
 use Rattle.masm_flat.proofs.appending.add_turns.Given as goal
 
 abbrev pub invariant-loop-turn : goal.invariant-loop-turn

@@ -1,10 +1,5 @@
-use Rattle.std.proofs.Common.{◌≡◌, ℕ, ◌<◌, [], ◌∷◌, ◌++◌, length, get_or, Some, sym, ap, ap₂, ◌∙◌}
-use Rattle.std.proofs.lemmas.List.{map_more}
-use Rattle.block_tree.specs.Trees.{Tree}
-use Rattle.block_tree.specs.TreeView.{tree_of}
-use Rattle.masm_flat.specs.Blocks.{as_tree, whole}
-use Rattle.masm_flat.specs.KnownLists.{list_at}
-use Rattle.masm_flat.specs.Views.{pieces_of}
+use Rattle.masm_flat.proofs.Words.{◌≡◌, ℕ, ◌<◌, [], ◌∷◌, ◌++◌, length, get_or, Some, sym, ap, ap₂, ◌∙◌, map_more, Tree, tree_of, as_tree, whole, list_at}
+use Rattle.masm_flat.proofs.Words.{pieces_of}
 use Rattle.masm_flat.proofs.Served.{list_read}
 use Rattle.masm_flat.proofs.dispatch.dispatch_tree.Goals as goal
 

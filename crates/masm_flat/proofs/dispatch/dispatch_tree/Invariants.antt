@@ -1,7 +1,4 @@
-use Rattle.std.proofs.Common.{◌≡◌, map, take, Some}
-use Rattle.block_tree.specs.TreeView.{tree_of, trees_in}
-use Rattle.masm_flat.specs.Blocks.{as_tree, whole}
-use Rattle.masm_flat.specs.KnownLists.{list_at}
+use Rattle.masm_flat.proofs.Words.{◌≡◌, map, take, Some, tree_of, trees_in, as_tree, whole, list_at}
 use Rattle.masm_flat.proofs.dispatch.dispatch_tree.Given as goal
 
 abbrev pub invariant-loop-place : goal.invariant-loop-place

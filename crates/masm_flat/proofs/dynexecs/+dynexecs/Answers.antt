@@ -1,8 +1,5 @@
-use Rattle.std.proofs.Common.{◌≡◌, ◌+◌, ◌*◌, ◌<◌, ◌||◌, true, false, ◌∷◌, drop, ap, sym, ◌∙◌, arith, rules}
-use Rattle.std.proofs.lemmas.List.{drop_more, at_drop_all}
-use Rattle.masm_tree.specs.Trees.{Empty}
-use Rattle.masm_tree.specs.Views.{stmt_view, body_of}
-use Rattle.masm_tree.proofs.Mirror.{body_of_nil}
+use Rattle.masm_flat.proofs.Words.{◌≡◌, ◌+◌, ◌*◌, ◌<◌, ◌||◌, true, false, ◌∷◌, drop, ap, sym, ◌∙◌, arith, rules, drop_more, at_drop_all, Empty, stmt_view}
+use Rattle.masm_flat.proofs.Words.{body_of, body_of_nil}
 use Rattle.masm_flat.proofs.Statements.{body_of_more, is_dynamic, dynamic-first, weight, weight-first, weight-If, weight-While, weight-Repeat}
 use Rattle.masm_flat.proofs.dynexecs.+dynexecs.Goals as goal
 

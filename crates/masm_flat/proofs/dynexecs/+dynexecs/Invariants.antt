@@ -1,6 +1,4 @@
-use Rattle.std.proofs.Common.{◌≡◌, ◌+◌, ◌*◌, ◌≤◌, drop}
-use Rattle.masm_tree.specs.Trees.{Empty}
-use Rattle.masm_tree.specs.Views.{stmt_view, body_of}
+use Rattle.masm_flat.proofs.Words.{◌≡◌, ◌+◌, ◌*◌, ◌≤◌, drop, Empty, stmt_view, body_of}
 use Rattle.masm_flat.proofs.Statements.{is_dynamic, weight}
 use Rattle.masm_flat.proofs.dynexecs.+dynexecs.Given as goal
 

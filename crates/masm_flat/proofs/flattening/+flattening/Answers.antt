@@ -1,20 +1,8 @@
-use Rattle.std.proofs.Common.{◌≡◌, ◌+◌, ◌*◌, ◌<◌, [], ◌∷◌, ◌++◌, map, drop, refl, ap, sym, subst, ◌∙◌, append-nil, append_assoc, arith, rules}
-use Rattle.std.proofs.lemmas.List.{drop_more, at_drop_all}
-use Rattle.masm_tree.specs.Trees.{Empty}
-use Rattle.masm_tree.specs.Views.{stmt_view, body_of}
-use Rattle.masm_tree.proofs.Mirror.{body_of_nil}
+use Rattle.masm_flat.proofs.Words.{◌≡◌, ◌+◌, ◌*◌, ◌<◌, [], ◌∷◌, ◌++◌, map, drop, refl, ap, sym, subst, ◌∙◌, append_assoc, arith, rules, drop_more}
+use Rattle.masm_flat.proofs.Words.{at_drop_all, Empty, stmt_view, body_of, body_of_nil, tree_of, as_tree, whole, Operation, Whole, times, digest_items}
+use Rattle.masm_flat.proofs.Words.{digest_at, place_at, flat_with, HasLocals, Serves, Own, Kernel, use_at, ref_at, uses_of, expansion, pieces_of}
+use Rattle.std.proofs.Common.{append-nil}
 use Rattle.block_tree.specs.Trees as trees
-use Rattle.block_tree.specs.TreeView.{tree_of}
-use Rattle.masm_flat.specs.Blocks.{as_tree, whole, Operation, Whole}
-use Rattle.masm_flat.specs.Lists.{times, digest_items}
-use Rattle.masm_flat.specs.KnownLists.{digest_at}
-use Rattle.masm_names.specs.Names.{place_at}
-use Rattle.masm_flat.specs.Flattening.{flat_with}
-use Rattle.masm_tree.specs.Locals.{HasLocals}
-use Rattle.masm_flat.specs.Taking.{Serves}
-use Rattle.masm_names.specs.Uses.{Own, Kernel, use_at, ref_at, uses_of}
-use Rattle.masm_expand.specs.Expansion.{expansion}
-use Rattle.masm_flat.specs.Views.{pieces_of}
 use Rattle.masm_flat.proofs.Statements.{body_of_more, flat-first, uses-first, flat-Instr, flat-Exec, flat-Call, flat-Syscall, flat-ProcRef, flat-DynExec, flat-If, flat-While, flat-Repeat, uses-Instr, uses-Exec, uses-Call, uses-Syscall, uses-ProcRef, uses-DynExec, uses-If, uses-While, uses-Repeat, locals-first, go_on, locals-Instr, locals-If, locals-While, locals-Repeat, weight, weight-first, weight-If, weight-While, weight-Repeat}
 use Rattle.masm_flat.proofs.Served.{keeps_then, on_ok, comes_same, comes_as, comes_then, comes_statement, comes_body, comes_exported, comes_referred, comes_dispatched}
 use Rattle.masm_flat.proofs.flattening.+flattening.Goals as goal

@@ -1,13 +1,5 @@
-use Rattle.std.proofs.Common.{◌≡◌, ◌+◌, ◌*◌, ◌≤◌, List, ◌++◌, drop}
-use Rattle.block_tree.specs.Trees.{Tree}
-use Rattle.masm_tree.specs.Trees.{Empty}
-use Rattle.masm_tree.specs.Views.{stmt_view, body_of}
-use Rattle.masm_flat.specs.Blocks.{as_tree}
-use Rattle.masm_flat.specs.Flattening.{Known, flat_with}
-use Rattle.masm_tree.specs.Locals.{HasLocals}
-use Rattle.masm_flat.specs.Taking.{Keeps, Serves}
-use Rattle.masm_flat.specs.Views.{pieces_of}
-use Rattle.masm_names.specs.Uses.{Use, uses_of}
+use Rattle.masm_flat.proofs.Words.{◌≡◌, ◌+◌, ◌*◌, ◌≤◌, List, ◌++◌, drop, Tree, Empty, stmt_view, body_of, as_tree, Known, flat_with, HasLocals, Keeps, Serves}
+use Rattle.masm_flat.proofs.Words.{pieces_of, Use, uses_of}
 use Rattle.masm_flat.proofs.Statements.{weight}
 use Rattle.masm_flat.proofs.flattening.+flattening.Given as goal
 

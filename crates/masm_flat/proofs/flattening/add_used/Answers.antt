@@ -1,6 +1,4 @@
-use Rattle.std.proofs.Common.{sym, ap, ◌∙◌}
-use Rattle.masm_names.specs.Names.{place_at}
-use Rattle.masm_flat.specs.Views.{pieces_of}
+use Rattle.masm_flat.proofs.Words.{sym, ap, ◌∙◌, place_at, pieces_of}
 use Rattle.masm_flat.proofs.Served.{on_both, comes_used, comes_unused}
 use Rattle.masm_flat.proofs.flattening.add_used.Goals as goal
 

@@ -1,8 +1,5 @@
-use Rattle.std.proofs.Common.{◌++◌, refl, ap, ◌∙◌, ◌≡◌}
+use Rattle.masm_flat.proofs.Words.{◌++◌, refl, ap, ◌∙◌, ◌≡◌, tree_of, as_tree, whole, pieces_of}
 use Rattle.block_tree.specs.Trees.{Call}
-use Rattle.block_tree.specs.TreeView.{tree_of}
-use Rattle.masm_flat.specs.Blocks.{as_tree, whole}
-use Rattle.masm_flat.specs.Views.{pieces_of}
 use Rattle.masm_flat.proofs.Served.{comes_as}
 use Rattle.masm_flat.proofs.flattening.called.Goals as goal
 

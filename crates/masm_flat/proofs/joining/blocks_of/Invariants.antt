@@ -1,8 +1,6 @@
-use Rattle.std.proofs.Common.{◌≡◌, [], ◌++◌, map}
+use Rattle.masm_flat.proofs.Words.{◌≡◌, [], ◌++◌, map, tree_of, as_tree, pieces_of}
 use Rattle.std.specs.Vec.Iter.{into_iter_items}
-use Rattle.block_tree.specs.TreeView.{tree_of}
-use Rattle.masm_flat.specs.Blocks.{blocks_behind, as_tree}
-use Rattle.masm_flat.specs.Views.{pieces_of}
+use Rattle.masm_flat.specs.Blocks.{blocks_behind}
 use Rattle.masm_flat.proofs.joining.blocks_of.Given as goal
 
 abbrev pub invariant-loop-piece : goal.invariant-loop-piece

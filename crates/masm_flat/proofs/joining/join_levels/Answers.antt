@@ -1,7 +1,4 @@
-use Rattle.std.proofs.Common.{◌<◌, length, map, ap, arith}
-use Rattle.std.proofs.lemmas.List.{length-map}
-use Rattle.block_tree.specs.TreeView.{tree_of}
-use Rattle.masm_flat.specs.Blocks.{as_tree}
+use Rattle.masm_flat.proofs.Words.{◌<◌, length, map, ap, arith, length-map, tree_of, as_tree}
 use Rattle.masm_flat.proofs.Levels.{paired-shorter, joined-next}
 use Rattle.masm_flat.proofs.joining.join_levels.Goals as goal
 

@@ -1,6 +1,5 @@
-use Rattle.std.proofs.Common.{◌≡◌, map, vec_len}
-use Rattle.block_tree.specs.TreeView.{tree_of}
-use Rattle.masm_flat.specs.Blocks.{all_joined, as_tree}
+use Rattle.masm_flat.proofs.Words.{◌≡◌, map, vec_len, tree_of, as_tree}
+use Rattle.masm_flat.specs.Blocks.{all_joined}
 use Rattle.masm_flat.proofs.joining.join_levels.Given as goal
 
 abbrev pub invariant-loop-alloc : goal.invariant-loop-alloc

@@ -1,7 +1,6 @@
-use Rattle.std.proofs.Common.{◌≡◌, ◌++◌, map}
+use Rattle.masm_flat.proofs.Words.{◌≡◌, ◌++◌, map, tree_of, as_tree}
 use Rattle.std.specs.Vec.Iter.{into_iter_items, into_iter_len}
-use Rattle.block_tree.specs.TreeView.{tree_of}
-use Rattle.masm_flat.specs.Blocks.{paired, as_tree}
+use Rattle.masm_flat.specs.Blocks.{paired}
 use Rattle.masm_flat.proofs.joining.pairs.Given as goal
 
 abbrev pub invariant-loop-next : goal.invariant-loop-next

@@ -1,14 +1,5 @@
-use Rattle.std.proofs.Common.{◌≡◌, ◌-◌, ◌<◌, [], ◌∷◌, ◌++◌, refl, sym, ap, ap₂, ◌∙◌, arith}
-use Rattle.vm_field.specs.Field.{prime}
-use Rattle.vm_ops.specs.Items.{plain_item}
-use Rattle.vm_ops.specs.declared.op.Op.TheVariants.{FmpUpdate}
-use Rattle.masm_expand.specs.Expansion.{lit}
-use Rattle.masm_tree.specs.Views.{body_of}
-use Rattle.masm_names.specs.Uses.{uses_of}
-use Rattle.masm_flat.specs.Blocks.{Operation, as_tree}
-use Rattle.masm_flat.specs.Flattening.{flat_with}
-use Rattle.masm_flat.specs.Lists.{with_locals}
-use Rattle.masm_flat.specs.Views.{pieces_of}
+use Rattle.masm_flat.proofs.Words.{◌≡◌, ◌-◌, ◌<◌, [], ◌∷◌, ◌++◌, refl, sym, ap, ap₂, ◌∙◌, arith, prime, plain_item, FmpUpdate, lit, body_of, uses_of}
+use Rattle.masm_flat.proofs.Words.{Operation, as_tree, flat_with, with_locals, pieces_of}
 use Rattle.masm_flat.proofs.Frames.{with_none, with_some}
 use Rattle.masm_flat.proofs.Served.{comes_as}
 use Rattle.masm_flat.proofs.procedure.list_of_procedure.Goals as goal

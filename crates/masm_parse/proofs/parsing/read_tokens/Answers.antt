@@ -1,4 +1,4 @@
-use Rattle.std.proofs.Common.{◌<◌, length, subst}
+use Rattle.masm_parse.proofs.Words.{◌<◌, length, subst}
 use Rattle.masm_lex.proofs.Parts.{tokens_are_parts}
 use Rattle.masm_parse.proofs.parsing.read_tokens.Goals as goal
 

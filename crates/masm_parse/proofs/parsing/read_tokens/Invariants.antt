@@ -1,5 +1,4 @@
-use Rattle.std.proofs.Common.{◌≡◌, drop}
-use Rattle.masm_parse.specs.Machine.{parse_from, parsed}
+use Rattle.masm_parse.proofs.Words.{◌≡◌, drop, parse_from, parsed}
 use Rattle.masm_parse.specs.Views.{parser_view}
 use Rattle.masm_parse.proofs.parsing.read_tokens.Given as goal
 

@@ -1,13 +1,6 @@
-use Rattle.std.proofs.Common.{◌≡◌, ◌<◌, length, Some, Vec, Global, take, unwrap_or, [], refl, sym, ap, subst, ◌∙◌, arith}
-use Rattle.std.proofs.lemmas.Option.{slice_get_read}
-use Rattle.std.specs.Option.{option_map}
+use Rattle.masm_tables.proofs.Words.{◌≡◌, ◌<◌, length, Some, Vec, Global, take, unwrap_or, [], refl, sym, ap, subst, ◌∙◌, arith, slice_get_read, option_map}
+use Rattle.masm_tables.proofs.Words.{as_tree, whole, list_at, size_at, extent_of, size_view, nothing, pieces_of, AreBuilt, none}
 use Rattle.masm_flat.specs.declared.piece.Piece.{Piece}
-use Rattle.masm_flat.specs.Blocks.{as_tree, whole}
-use Rattle.masm_flat.specs.KnownLists.{list_at}
-use Rattle.masm_size.specs.KnownSizes.{size_at}
-use Rattle.masm_size.specs.Sizes.{extent_of, size_view, nothing}
-use Rattle.masm_flat.specs.Views.{pieces_of}
-use Rattle.masm_tables.specs.Building.{AreBuilt, none}
 use Rattle.masm_tables.proofs.Built.{built_more, built_same}
 use Rattle.masm_tables.proofs.building.exports_of.Goals as goal
 use Rattle.masm_tables.proofs.building.exports_of.Goals.{then-procedure+in_ok-export_of+in_ok-push, else-procedure}

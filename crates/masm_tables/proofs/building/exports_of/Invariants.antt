@@ -1,5 +1,4 @@
-use Rattle.std.proofs.Common.{take}
-use Rattle.masm_tables.specs.Building.{AreBuilt}
+use Rattle.masm_tables.proofs.Words.{take, AreBuilt}
 use Rattle.masm_tables.proofs.building.exports_of.Given as goal
 
 abbrev pub invariant-loop-place : goal.invariant-loop-place

@@ -1,24 +1,10 @@
-use Rattle.std.proofs.Common.{◌≡◌, ℕ, List, [], refl, subst, Option, Some, None, Vec, Global, sym, ap, ap₂, ◌∙◌}
-use Rattle.std.specs.Option.{option_map}
-use Rattle.std.proofs.lemmas.Option.{same_Some}
+use Rattle.masm_tables.proofs.Words.{◌≡◌, ℕ, List, [], refl, subst, Option, Some, None, Vec, Global, sym, ap, ap₂, ◌∙◌, option_map, same_Some, Tree, tree_of}
+use Rattle.masm_tables.proofs.Words.{Proc, body_of, procedure_of, Names, KernelProc, as_tree, whole, Table, Known, flat_with, with_locals, dispatch_of}
+use Rattle.masm_tables.proofs.Words.{lists_known, place_at, places_used, uses_of, Prepares}
 use Rattle.block_tree.specs.declared.tree.Tree as code
-use Rattle.block_tree.specs.Trees.{Tree}
-use Rattle.block_tree.specs.TreeView.{tree_of}
-use Rattle.masm_tree.specs.declared.tree.Proc.{Proc}
-use Rattle.masm_tree.specs.Views.{body_of, procedure_of}
-use Rattle.masm_names.specs.declared.names.Names.{Names}
-use Rattle.masm_flat.specs.declared.outside.KernelProc.{KernelProc}
-use Rattle.masm_flat.specs.Blocks.{Piece, as_tree, whole}
-use Rattle.masm_flat.specs.declared.table.Table.{Table}
-use Rattle.masm_flat.specs.Flattening.{Known, flat_with}
-use Rattle.masm_flat.specs.Lists.{with_locals}
+use Rattle.masm_flat.specs.Blocks.{Piece}
 use Rattle.masm_flat.specs.declared.piece.Piece as piece
-use Rattle.masm_flat.specs.KnownLists.{dispatch_of, lists_known}
-use Rattle.masm_names.specs.Names.{place_at}
-use Rattle.masm_names.specs.UsedPlaces.{places_used}
-use Rattle.masm_names.specs.Uses.{uses_of}
 use Rattle.masm_uses.specs.Plans.{IsNoneOrAll, main_uses}
-use Rattle.masm_tables.specs.Preparing.{Prepares}
 use Rattle.masm_tables.proofs.Taken.{counted_in, serves_start, all_of}
 use Rattle.masm_tables.proofs.building.main_tree.Goals as goal
 

@@ -1,5 +1,4 @@
-use Rattle.std.proofs.Common.{◌≡◌, take}
-use Rattle.masm_tables.specs.Kernels.{names_in}
+use Rattle.masm_tables.proofs.Words.{◌≡◌, take, names_in}
 use Rattle.masm_tables.proofs.kernel.export_names.Given as goal
 
 abbrev pub invariant-loop-export : goal.invariant-loop-export

@@ -1,15 +1,7 @@
-use Rattle.std.proofs.Common.{◌≡◌, ℕ, ◌≤◌, ◌<◌, length, Some, unwrap_or, refl, sym, ap, ◌∙◌, arith, rules}
-use Rattle.std.proofs.lemmas.Option.{slice_get_read}
-use Rattle.std.specs.Option.{option_map}
-use Rattle.masm_size.specs.KnownSizes.{size_at}
-use Rattle.masm_size.specs.Sizes.{extent_of, size_view, nothing}
-use Rattle.masm_tree.specs.declared.tree.Position.{Position}
-use Rattle.masm_tree.specs.declared.tree.Proc.{Proc}
-use Rattle.masm_tree.specs.Views.{procedure_of}
+use Rattle.masm_tables.proofs.Words.{◌≡◌, ℕ, ◌≤◌, ◌<◌, length, Some, unwrap_or, refl, sym, ap, ◌∙◌, arith, rules, slice_get_read, option_map, size_at}
+use Rattle.masm_tables.proofs.Words.{extent_of, size_view, nothing, Position, Proc, procedure_of, position_of, ExceedsLimit}
 use Rattle.masm_names.specs.declared.refusal.LinkCause.{LinkCause}
-use Rattle.masm_tree.specs.Trees.{position_of}
 use Rattle.masm_names.proofs.LeastLemmas.{Among-more, Among-end}
-use Rattle.masm_tables.specs.Limits.{ExceedsLimit}
 use Rattle.masm_tables.proofs.Over.{over_same}
 use Rattle.masm_tables.proofs.limits.first_too_large.Goals as goal
 

@@ -1,10 +1,5 @@
-use Rattle.std.proofs.Common.{◌≡◌, None, MatchOption, sym, ap, subst, ◌∙◌}
-use Rattle.masm_size.specs.KnownSizes.{dispatch_extent, sizes_known}
-use Rattle.masm_size.specs.Sizes.{extent_of, procedure_size}
-use Rattle.masm_tree.specs.Views.{body_of, procedure_of}
-use Rattle.masm_names.specs.Least.{FindsLeast}
-use Rattle.masm_tree.specs.Trees.{position_of}
-use Rattle.masm_tables.specs.Limits.{ExceedsLimit}
+use Rattle.masm_tables.proofs.Words.{◌≡◌, None, MatchOption, sym, ap, subst, ◌∙◌, dispatch_extent, sizes_known, extent_of, procedure_size, body_of}
+use Rattle.masm_tables.proofs.Words.{procedure_of, FindsLeast, position_of, ExceedsLimit}
 use Rattle.masm_tables.proofs.Over.{over_same}
 use Rattle.masm_tables.proofs.limits.main_too_large.Goals as goal
 

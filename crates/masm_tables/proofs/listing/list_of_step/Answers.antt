@@ -1,11 +1,4 @@
-use Rattle.std.proofs.Common.{[], length, slice_get, ap, ◌∙◌}
-use Rattle.block_tree.specs.Trees.{Tree}
-use Rattle.masm_flat.specs.Blocks.{as_tree}
-use Rattle.masm_flat.specs.Flattening.{Known, flat_with}
-use Rattle.masm_flat.specs.KnownLists.{lists_known}
-use Rattle.masm_flat.specs.Lists.{with_locals}
-use Rattle.masm_names.specs.Uses.{uses_of}
-use Rattle.masm_tree.specs.Views.{body_of}
+use Rattle.masm_tables.proofs.Words.{[], length, slice_get, ap, ◌∙◌, Tree, as_tree, Known, flat_with, lists_known, with_locals, uses_of, body_of}
 use Rattle.masm_tables.proofs.Taken.{counted_in, none_left, serves_start, none_end}
 use Rattle.masm_tables.proofs.listing.list_of_step.Goals as goal
 

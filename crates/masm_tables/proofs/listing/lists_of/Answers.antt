@@ -1,22 +1,9 @@
-use Rattle.std.proofs.Common.{◌≡◌, ℕ, ◌+◌, ◌-◌, ◌<◌, true, List, Vec, Global, length, take, refl, sym, ap, subst, ◌∙◌, arith}
-use Rattle.std.specs.Prelude.{reverse}
-use Rattle.std.specs.List.{All, Contains}
-use Rattle.std.proofs.lemmas.List.{length-map, take_all}
+use Rattle.masm_tables.proofs.Words.{◌≡◌, ℕ, ◌+◌, ◌-◌, ◌<◌, true, List, Vec, Global, length, take, refl, sym, ap, subst, ◌∙◌, arith, reverse, All, Contains}
+use Rattle.masm_tables.proofs.Words.{length-map, take_all, tree_digest, tree_of, Table, as_tree, whole, dispatch_in, dispatch_of, Outside, HasNoneLeft}
+use Rattle.masm_tables.proofs.Words.{ProcedureFits, body_of, procedure_of, source_of, place_at, AreExports, names_in, IsListAt, IsDigestAt, IsDispatch}
+use Rattle.masm_tables.proofs.Words.{IsDispatched, listed, Prepares}
 use Rattle.block_tree.specs.declared.tree.Tree as code
-use Rattle.block_tree.specs.Trees.{tree_digest}
-use Rattle.block_tree.specs.TreeView.{tree_of}
-use Rattle.masm_flat.specs.declared.table.Table.{Table}
-use Rattle.masm_flat.specs.Blocks.{as_tree, whole}
-use Rattle.masm_flat.specs.KnownLists.{dispatch_in, dispatch_of}
-use Rattle.masm_flat.specs.Lists.{Outside}
-use Rattle.masm_flat.specs.Taking.{HasNoneLeft}
-use Rattle.masm_tree.specs.Locals.{ProcedureFits}
-use Rattle.masm_tree.specs.Views.{body_of, procedure_of, source_of}
-use Rattle.masm_names.specs.Names.{place_at}
 use Rattle.masm_uses.specs.Plans.{EndsInFull, IsWanted, IsReferred, ListNeeds, used, targeted, NeedsIn, keeps_list, ended_lists, makes_digest, no_ends}
-use Rattle.masm_tables.specs.Kernels.{AreExports, names_in}
-use Rattle.masm_tables.specs.Tables.{IsListAt, IsDigestAt, IsDispatch, IsDispatched, listed}
-use Rattle.masm_tables.specs.Preparing.{Prepares}
 use Rattle.masm_tables.proofs.Dispatches.{dispatch_is, targets_below}
 use Rattle.masm_tables.proofs.Known.{all_at, read_here, list_step, digest_step}
 use Rattle.masm_tables.proofs.Prepared.{asked, prepared}

@@ -1,10 +1,4 @@
-use Rattle.std.proofs.Common.{◌≡◌, length, take}
-use Rattle.std.specs.Prelude.{reverse}
-use Rattle.masm_flat.specs.Lists.{Outside}
-use Rattle.masm_flat.specs.Taking.{HasNoneLeft}
-use Rattle.masm_tree.specs.Views.{source_of}
-use Rattle.masm_tables.specs.Kernels.{AreExports}
-use Rattle.masm_tables.specs.Tables.{IsDispatched}
+use Rattle.masm_tables.proofs.Words.{◌≡◌, length, take, reverse, Outside, HasNoneLeft, source_of, AreExports, IsDispatched}
 use Rattle.masm_tables.proofs.Steps.{ArePlaces, BuildsLists, BuildsDigests}
 use Rattle.masm_tables.proofs.listing.lists_of.Given as goal
 

@@ -1,4 +1,4 @@
-use Rattle.std.proofs.Common.{refl}
+use Rattle.masm_tables.proofs.Words.{refl}
 use Rattle.masm_tables.proofs.Put.{puts_one}
 use Rattle.masm_tables.proofs.listing.put_list.Goals as goal
 

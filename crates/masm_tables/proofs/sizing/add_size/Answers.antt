@@ -1,7 +1,4 @@
-use Rattle.std.proofs.Common.{refl, ap, ◌∙◌}
-use Rattle.masm_size.specs.KnownSizes.{sizes_known}
-use Rattle.masm_size.specs.Sizes.{procedure_size}
-use Rattle.masm_tree.specs.Views.{body_of}
+use Rattle.masm_tables.proofs.Words.{refl, ap, ◌∙◌, sizes_known, procedure_size, body_of}
 use Rattle.masm_tables.proofs.sizing.add_size.Goals as goal
 
 pub returns : goal.returns

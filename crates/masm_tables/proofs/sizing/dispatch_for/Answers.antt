@@ -1,5 +1,4 @@
-use Rattle.std.proofs.Common.{sym, ◌∙◌}
-use Rattle.masm_tree.specs.Views.{body_of}
+use Rattle.masm_tables.proofs.Words.{sym, ◌∙◌, body_of}
 use Rattle.masm_tables.proofs.Prepared.{prepares_kept, prepares_none, prepares_made}
 use Rattle.masm_tables.proofs.sizing.dispatch_for.Goals as goal
 

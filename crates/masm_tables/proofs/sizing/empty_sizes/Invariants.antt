@@ -1,4 +1,4 @@
-use Rattle.std.proofs.Common.{◌≡◌, length}
+use Rattle.masm_tables.proofs.Words.{◌≡◌, length}
 use Rattle.masm_tables.proofs.sizing.empty_sizes.Given as goal
 
 abbrev pub invariant-loop : goal.invariant-loop

@@ -1,13 +1,5 @@
-use Rattle.std.proofs.Common.{◌≡◌, ◌<◌, ◌≤◌, length, get_or, take, sym, ap, subst, ◌∙◌, unwrap_or, arith, rules}
-use Rattle.std.proofs.lemmas.List.{length-set, take_all}
-use Rattle.masm_tree.specs.Locals.{ProcedureFits}
-use Rattle.masm_tree.specs.Views.{body_of, procedure_of, source_of}
-use Rattle.masm_flat.specs.declared.extent.Extent.{Extent}
-use Rattle.masm_tables.specs.Kernels.{names_in}
-use Rattle.masm_tables.specs.Tables.{AreSizes}
-use Rattle.masm_size.specs.KnownSizes.{dispatch_extent}
-use Rattle.masm_size.specs.Sizes.{extent}
-use Rattle.masm_tables.specs.Preparing.{Prepares}
+use Rattle.masm_tables.proofs.Words.{◌≡◌, ◌<◌, ◌≤◌, length, get_or, take, sym, ap, subst, ◌∙◌, unwrap_or, arith, rules, length-set, take_all, ProcedureFits}
+use Rattle.masm_tables.proofs.Words.{body_of, procedure_of, source_of, Extent, names_in, AreSizes, dispatch_extent, extent, Prepares}
 use Rattle.masm_tables.proofs.Dispatches.{IsDispatchExtent, dispatch_extent_is}
 use Rattle.masm_tables.proofs.Known.{all_at, has_operations, read_here, sizes_more}
 use Rattle.masm_tables.proofs.Prepared.{asked, prepared}

@@ -1,8 +1,4 @@
-use Rattle.std.proofs.Common.{◌≡◌, length, take, MatchOption}
-use Rattle.masm_flat.specs.Lists.{Outside}
-use Rattle.masm_tree.specs.Views.{source_of}
-use Rattle.masm_tables.specs.Kernels.{IsOutside}
-use Rattle.masm_tables.specs.Tables.{AreSizes}
+use Rattle.masm_tables.proofs.Words.{◌≡◌, length, take, MatchOption, Outside, source_of, IsOutside, AreSizes}
 use Rattle.masm_tables.proofs.Dispatches.{IsDispatchExtent}
 use Rattle.masm_tables.proofs.sizing.sizes_of.Given as goal
 

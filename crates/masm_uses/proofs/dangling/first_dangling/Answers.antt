@@ -1,18 +1,7 @@
-use Rattle.std.proofs.Common.{◌≡◌, ◌<◌, ℕ, List, Option, Vec, Global, map, length, sym, ap, subst, ◌∙◌, arith}
-use Rattle.std.proofs.lemmas.List.{length-map, map-id}
-use Rattle.masm_tree.specs.declared.tree.Proc.{Proc}
-use Rattle.masm_tree.specs.Views.{procedure_of}
-use Rattle.masm_graph.specs.declared.links.Link.{Link}
-use Rattle.masm_names.specs.Among.{Among}
-use Rattle.masm_uses.specs.Dangling.{Missing, Recursions, Dynexecs}
-use Rattle.std.specs.List.{All}
-use Rattle.graphs.specs.Graph.{rows_of, IsGraph, LeadsFrom}
-use Rattle.masm_names.specs.Least.{FindsLeast}
-use Rattle.masm_graph.specs.Dynexecs.{dynexecs_in}
-use Rattle.masm_graph.specs.Links.{links_in, main_links_in, own_places, places_referred}
-use Rattle.masm_names.specs.Names.{place_at}
-use Rattle.masm_graph.specs.Users.{UsesProcedure, AreUsers}
-use Rattle.masm_names.specs.Uses.{place_in, first_place}
+use Rattle.masm_uses.proofs.Words.{◌≡◌, ◌<◌, ℕ, List, Option, Vec, Global, map, length, sym, ap, subst, ◌∙◌, arith, length-map, Proc, procedure_of, Link}
+use Rattle.masm_uses.proofs.Words.{Among, Missing, Recursions, Dynexecs, All, rows_of, IsGraph, LeadsFrom, FindsLeast, dynexecs_in, links_in, main_links_in}
+use Rattle.masm_uses.proofs.Words.{own_places, places_referred, place_at, UsesProcedure, AreUsers, place_in, first_place}
+use Rattle.std.proofs.lemmas.List.{map-id}
 use Rattle.masm_uses.proofs.DanglingAnswers.{FindsLeast-dangling}
 use Rattle.masm_uses.proofs.TargetLemmas.{referred_within}
 use Rattle.masm_uses.proofs.UseOrderLemmas.{is-graph}

@@ -1,12 +1,5 @@
-use Rattle.std.proofs.Common.{◌≡◌, ◌<◌, ℕ, true, false, List, Vec, Global, map, length, get_or, sym, ap, subst, ◌∙◌, arith}
-use Rattle.std.proofs.lemmas.List.{length-map}
-use Rattle.std.specs.List.{All}
-use Rattle.graphs.specs.Graph.{rows_of, IsGraph, LeadsFrom}
-use Rattle.masm_graph.specs.declared.links.Link.{Link}
-use Rattle.masm_graph.specs.Dynexecs.{dynexecs_in}
-use Rattle.masm_graph.specs.Links.{own_places, places_referred}
-use Rattle.masm_names.specs.Least.{FindsLeast}
-use Rattle.masm_uses.specs.Dangling.{Dynexecs}
+use Rattle.masm_uses.proofs.Words.{◌≡◌, ◌<◌, ℕ, true, false, List, Vec, Global, map, length, get_or, sym, ap, subst, ◌∙◌, arith, length-map, All, rows_of}
+use Rattle.masm_uses.proofs.Words.{IsGraph, LeadsFrom, Link, dynexecs_in, own_places, places_referred, FindsLeast, Dynexecs}
 use Rattle.masm_uses.proofs.DispatchLemmas.{Dynexecs-same}
 use Rattle.masm_uses.proofs.dispatch.first_dispatch.Goals as goal
 

@@ -1,14 +1,5 @@
-use Rattle.std.proofs.Common.{◌≡◌, ◌≤◌, ◌<◌, ℕ, Bool, true, false, List, Option, get_or, length, Vec, Global, subst, ◌∙◌, arith}
-use Rattle.std.proofs.lemmas.List.{length-map}
-use Rattle.masm_tree.specs.declared.tree.Position.{Position}
-use Rattle.graphs.specs.Graph.{rows_of}
-use Rattle.masm_names.specs.declared.refusal.LinkCause.{LinkCause}
-use Rattle.masm_names.specs.declared.refusal.Refusal.{Refusal}
-use Rattle.masm_names.specs.Among.{Among}
-use Rattle.masm_names.specs.Least.{FindsLeast}
-use Rattle.masm_uses.specs.Dangling.{IsRefusedDynexec}
-use Rattle.masm_names.proofs.LeastLemmas.{Among-more, Among-end}
-use Rattle.masm_graph.proofs.UserLemmas.{row_read, row_itself}
+use Rattle.masm_uses.proofs.Words.{◌≡◌, ◌≤◌, ◌<◌, ℕ, Bool, true, false, List, Option, get_or, length, Vec, Global, subst, ◌∙◌, arith, length-map, Position}
+use Rattle.masm_uses.proofs.Words.{rows_of, LinkCause, Refusal, Among, FindsLeast, IsRefusedDynexec, Among-more, Among-end, row_read, row_itself}
 use Rattle.masm_uses.proofs.dispatch.first_marked.Goals as goal
 
 -- the dynexecs of a row, where its place has a mark

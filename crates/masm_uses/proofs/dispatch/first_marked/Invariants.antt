@@ -1,8 +1,4 @@
-use Rattle.std.proofs.Common.{◌≡◌, true, false, get_or}
-use Rattle.graphs.specs.Graph.{rows_of}
-use Rattle.masm_names.specs.Among.{Among, AmongFirst}
-use Rattle.masm_names.specs.Least.{FindsLeast}
-use Rattle.masm_uses.specs.Dangling.{IsRefusedDynexec}
+use Rattle.masm_uses.proofs.Words.{◌≡◌, true, false, get_or, rows_of, Among, AmongFirst, FindsLeast, IsRefusedDynexec}
 use Rattle.masm_uses.proofs.dispatch.first_marked.Given as goal
 
 abbrev pub invariant-loop-place : goal.invariant-loop-place

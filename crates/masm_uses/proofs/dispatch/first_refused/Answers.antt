@@ -1,8 +1,4 @@
-use Rattle.std.proofs.Common.{◌≡◌, ◌≤◌, true, length, get_or, rules}
-use Rattle.std.proofs.lemmas.List.{get_or_default}
-use Rattle.masm_tree.specs.declared.tree.Position.{Position}
-use Rattle.masm_uses.specs.Dangling.{IsRefusedDynexec}
-use Rattle.masm_names.proofs.LeastLemmas.{Among-more, Among-end}
+use Rattle.masm_uses.proofs.Words.{◌≡◌, ◌≤◌, true, length, get_or, rules, get_or_default, Position, IsRefusedDynexec, Among-more, Among-end}
 use Rattle.masm_uses.proofs.dispatch.first_refused.Goals as goal
 
 -- what is read behind the end of a row

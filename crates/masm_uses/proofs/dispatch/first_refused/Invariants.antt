@@ -1,7 +1,4 @@
-use Rattle.std.proofs.Common.{◌≡◌, true}
-use Rattle.masm_names.specs.Among.{AmongFirst}
-use Rattle.masm_names.specs.Least.{FindsLeast}
-use Rattle.masm_uses.specs.Dangling.{IsRefusedDynexec}
+use Rattle.masm_uses.proofs.Words.{◌≡◌, true, AmongFirst, FindsLeast, IsRefusedDynexec}
 use Rattle.masm_uses.proofs.dispatch.first_refused.Given as goal
 
 abbrev pub invariant-loop-at : goal.invariant-loop-at

@@ -1,8 +1,4 @@
-use Rattle.std.proofs.Common.{◌≤◌, length, get_or, rules}
-use Rattle.std.proofs.lemmas.List.{get_or_default}
-use Rattle.masm_uses.specs.Dangling.{LeadsNowhere}
-use Rattle.masm_names.proofs.LeastLemmas.{Among-more, Among-end}
-use Rattle.masm_graph.proofs.UserLemmas.{no_link}
+use Rattle.masm_uses.proofs.Words.{◌≤◌, length, get_or, rules, get_or_default, LeadsNowhere, Among-more, Among-end, no_link}
 use Rattle.masm_uses.proofs.missing.first_missing.Goals as goal
 
 pub loop-link-preserved : goal.loop-link-preserved

@@ -1,6 +1,4 @@
-use Rattle.masm_names.specs.Among.{AmongFirst}
-use Rattle.masm_uses.specs.Dangling.{LeadsNowhere}
-use Rattle.masm_names.specs.Least.{FindsLeast}
+use Rattle.masm_uses.proofs.Words.{AmongFirst, LeadsNowhere, FindsLeast}
 use Rattle.masm_uses.proofs.missing.first_missing.Given as goal
 
 abbrev pub invariant-loop-link : goal.invariant-loop-link

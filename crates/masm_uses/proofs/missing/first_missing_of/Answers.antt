@@ -1,11 +1,4 @@
-use Rattle.std.proofs.Common.{◌≤◌, ◌<◌, length, ◌∙◌, arith}
-use Rattle.std.proofs.lemmas.List.{length-map}
-use Rattle.std.proofs.Common.{Vec, Global}
-use Rattle.masm_graph.specs.declared.links.Link.{Link}
-use Rattle.masm_uses.specs.Dangling.{Missing}
-use Rattle.graphs.specs.Graph.{rows_of}
-use Rattle.masm_names.proofs.LeastLemmas.{Among-more, Among-end}
-use Rattle.masm_graph.proofs.UserLemmas.{row_read, row_itself}
+use Rattle.masm_uses.proofs.Words.{◌≤◌, ◌<◌, length, ◌∙◌, arith, length-map, Vec, Global, Link, Missing, rows_of, Among-more, Among-end, row_read, row_itself}
 use Rattle.masm_uses.proofs.missing.first_missing_of.Goals as goal
 
 pub loop-row-preserved : goal.loop-row-preserved

@@ -1,7 +1,4 @@
-use Rattle.masm_names.specs.Among.{AmongFirst}
-use Rattle.masm_uses.specs.Dangling.{Missing}
-use Rattle.graphs.specs.Graph.{rows_of}
-use Rattle.masm_names.specs.Least.{FindsLeast}
+use Rattle.masm_uses.proofs.Words.{AmongFirst, Missing, rows_of, FindsLeast}
 use Rattle.masm_uses.proofs.missing.first_missing_of.Given as goal
 
 abbrev pub invariant-loop-row : goal.invariant-loop-row

@@ -1,11 +1,5 @@
-use Rattle.std.proofs.Common.{◌<◌, ℕ, false, length, take, get_or, Vec, Global, inl, inr, sym, ap, subst, ◌∙◌, arith}
-use Rattle.std.proofs.lemmas.Bool.{cases_Bool}
-use Rattle.std.proofs.lemmas.List.{length-map}
-use Rattle.std.proofs.lemmas.List.Elements.{All-contains}
-use Rattle.std.specs.List.{Contains}
-use Rattle.graphs.specs.Graph.{rows_of, LeadsFrom, itself}
-use Rattle.graphs.specs.Orders.{IsOrder, marked_first}
-use Rattle.graphs.proofs.WalkLemmas.{Leads-push}
+use Rattle.masm_uses.proofs.Words.{◌<◌, ℕ, false, length, take, get_or, Vec, Global, inl, inr, sym, ap, subst, ◌∙◌, arith, cases_Bool, length-map}
+use Rattle.masm_uses.proofs.Words.{All-contains, Contains, rows_of, LeadsFrom, itself, IsOrder, marked_first, Leads-push}
 use Rattle.graphs.proofs.FirstLemmas.{marked_before, IsOrder-marked_first}
 use Rattle.masm_uses.proofs.ordering.order_from.Goals as goal
 

@@ -1,8 +1,5 @@
-use Rattle.std.proofs.Common.{false, get_or, refl, sym, ap, subst, ◌∙◌}
-use Rattle.std.proofs.lemmas.List.Elements.{All-push}
-use Rattle.std.specs.List.{All}
-use Rattle.masm_uses.specs.declared.planning.Step.{Step}
-use Rattle.masm_uses.specs.Plans.{StepsTo, passed, built, EndsInGraph, keeps_list, ended_lists, makes_digest, no_ends}
+use Rattle.masm_uses.proofs.Words.{false, get_or, refl, sym, ap, subst, ◌∙◌, All-push, All, Step, StepsTo, passed, built, EndsInGraph, keeps_list}
+use Rattle.masm_uses.proofs.Words.{ended_lists, makes_digest, no_ends}
 use Rattle.masm_uses.proofs.PlanLemmas.{step_ends}
 use Rattle.masm_uses.proofs.planning.add_step.Goals as goal
 

@@ -1,4 +1,4 @@
-use Rattle.std.proofs.Common.{◌<◌, length, get_or, refl, sym, subst}
+use Rattle.masm_uses.proofs.Words.{◌<◌, length, get_or, refl, sym, subst}
 use Rattle.masm_uses.proofs.PlanLemmas.{row_more}
 use Rattle.masm_uses.proofs.planning.mark_all.Goals as goal
 

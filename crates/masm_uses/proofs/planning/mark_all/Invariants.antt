@@ -1,5 +1,4 @@
-use Rattle.std.proofs.Common.{[], take}
-use Rattle.masm_uses.specs.Plans.{MarksRow}
+use Rattle.masm_uses.proofs.Words.{[], take, MarksRow}
 use Rattle.masm_uses.proofs.planning.mark_all.Given as goal
 
 abbrev pub invariant-loop-place : goal.invariant-loop-place

@@ -1,5 +1,4 @@
-use Rattle.std.proofs.Common.{ap, ◌∙◌}
-use Rattle.std.specs.Prelude.{filter}
+use Rattle.masm_uses.proofs.Words.{ap, ◌∙◌, filter}
 use Rattle.masm_uses.proofs.PlanLemmas.{is_unmarked, with_fresh}
 use Rattle.masm_uses.proofs.planning.mark_row.Goals as goal
 

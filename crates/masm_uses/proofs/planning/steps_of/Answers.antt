@@ -1,13 +1,6 @@
-use Rattle.std.proofs.Common.{◌≡◌, ◌+◌, ◌-◌, ◌<◌, ℕ, Bool, true, false, List, Vec, Global, [], length, get_or, refl, sym, subst, ◌∙◌, arith}
-use Rattle.std.proofs.lemmas.List.{length-map}
-use Rattle.graphs.specs.Graph.{rows_of}
-use Rattle.graphs.specs.Orders.{IsOrder}
-use Rattle.std.proofs.lemmas.List.Elements.{All-nil}
-use Rattle.std.specs.List.{All}
-use Rattle.masm_uses.specs.declared.planning.Step.{Step}
-use Rattle.masm_uses.specs.Plans.{EndsInGraph, StepsTo, keeps_list, ended_lists, makes_digest, no_ends}
+use Rattle.masm_uses.proofs.Words.{◌≡◌, ◌+◌, ◌-◌, ◌<◌, ℕ, Bool, true, false, List, Vec, Global, [], length, get_or, refl, sym, subst, ◌∙◌, arith, length-map}
+use Rattle.masm_uses.proofs.Words.{rows_of, IsOrder, All-nil, All, Step, EndsInGraph, StepsTo, keeps_list, ended_lists, makes_digest, no_ends, within_marks}
 use Rattle.masm_uses.proofs.PlanLemmas.{Served, served-step, served-none, served-all, steps_keep}
-use Rattle.graphs.proofs.WalkLemmas.{within_marks}
 use Rattle.masm_uses.proofs.planning.steps_of.Goals as goal
 
 -- before the first step

@@ -1,8 +1,5 @@
-use Rattle.std.proofs.Common.{◌≡◌, ℕ, length, true, false, get_or}
-use Rattle.std.specs.Prelude.{reverse}
-use Rattle.graphs.specs.Graph.{rows_of}
-use Rattle.std.specs.List.{All}
-use Rattle.masm_uses.specs.Plans.{Builds, EndsInGraph, IsHeldFor, keeps_list, ended_lists, makes_digest, no_ends}
+use Rattle.masm_uses.proofs.Words.{◌≡◌, ℕ, length, true, false, get_or, reverse, rows_of, All, Builds, EndsInGraph, IsHeldFor, keeps_list, ended_lists}
+use Rattle.masm_uses.proofs.Words.{makes_digest, no_ends}
 use Rattle.masm_uses.proofs.PlanLemmas.{Seen}
 use Rattle.masm_uses.proofs.planning.steps_of.Given as goal
 

@@ -1,12 +1,6 @@
-use Rattle.std.proofs.Common.{◌≡◌, ℕ, Bool, true, false, List, Vec, Global, map, length, get_or, ◌<◌, ◌⊎◌, inl, inr, refl, sym, ap, subst, ◌∙◌, arith}
-use Rattle.std.specs.Prelude.{reverse}
-use Rattle.std.proofs.lemmas.List.{length-map}
-use Rattle.std.specs.List.{All, Contains}
-use Rattle.graphs.specs.Graph.{rows_of, Edge, IsGraph}
-use Rattle.graphs.specs.Orders.{IsOrder}
-use Rattle.masm_graph.specs.declared.links.Link.{Link}
-use Rattle.masm_graph.specs.Links.{places_with}
-use Rattle.masm_uses.specs.Plans.{Builds, EndsInGraph, IsHeldFor, StandsBefore, held, keeps_list, ended_lists, makes_digest, no_ends}
+use Rattle.masm_uses.proofs.Words.{◌≡◌, ℕ, Bool, true, false, List, Vec, Global, map, length, get_or, ◌<◌, ◌⊎◌, inl, inr, refl, sym, ap, subst, ◌∙◌, arith}
+use Rattle.masm_uses.proofs.Words.{reverse, length-map, All, Contains, rows_of, Edge, IsGraph, IsOrder, Link, places_with, Builds, EndsInGraph, IsHeldFor}
+use Rattle.masm_uses.proofs.Words.{StandsBefore, held, keeps_list, ended_lists, makes_digest, no_ends}
 use Rattle.masm_uses.proofs.DispatchLemmas.{held_within}
 use Rattle.masm_uses.proofs.PlanLemmas.{builds-more}
 use Rattle.masm_uses.proofs.procedures.planned.Goals as goal

@@ -1,22 +1,8 @@
-use Rattle.std.proofs.Common.{◌≡◌, ◌<◌, ℕ, Bool, true, false, List, Option, Vec, Global, map, length, take, get_or, ◌⊎◌, sym, ap, refl, subst, ◌∙◌, arith}
-use Rattle.std.specs.Prelude.{reverse}
-use Rattle.std.proofs.lemmas.List.{length-map}
-use Rattle.masm_graph.specs.declared.links.Link.{Link}
-use Rattle.graphs.specs.Graph.{rows_of, IsGraph, Edge, LeadsFrom}
-use Rattle.graphs.specs.Orders.{each_once}
-use Rattle.masm_graph.specs.Dynexecs.{has_dynexec}
-use Rattle.masm_graph.specs.Links.{links_in, main_links_in, own_places, places_with, places_referred}
-use Rattle.masm_names.specs.Naming.{IsClosed}
-use Rattle.masm_names.specs.Uses.{first_place}
-use Rattle.std.specs.Option.{option_map}
-use Rattle.masm_reading.specs.declared.constant.Const.{Const}
-use Rattle.masm_names.specs.Names.{place_at}
-use Rattle.graphs.specs.Orders.{IsAcyclic, IsOrder}
-use Rattle.std.specs.List.{All, Contains}
-use Rattle.masm_uses.specs.UseOrders.{IsUseOrder}
-use Rattle.masm_uses.specs.Plans.{Builds, EndsInGraph, StandsBefore, held, keeps_list, ended_lists, makes_digest, no_ends}
-use Rattle.masm_tree.specs.declared.tree.Proc.{Proc}
-use Rattle.masm_tree.specs.Views.{procedure_of, source_of}
+use Rattle.masm_uses.proofs.Words.{◌≡◌, ◌<◌, ℕ, Bool, true, false, List, Option, Vec, Global, map, length, take, get_or, ◌⊎◌, sym, ap, refl, subst, ◌∙◌}
+use Rattle.masm_uses.proofs.Words.{arith, reverse, length-map, Link, rows_of, IsGraph, Edge, LeadsFrom, each_once, has_dynexec, links_in, main_links_in}
+use Rattle.masm_uses.proofs.Words.{own_places, places_with, places_referred, IsClosed, first_place, option_map, Const, place_at, IsAcyclic, IsOrder, All}
+use Rattle.masm_uses.proofs.Words.{Contains, IsUseOrder, Builds, EndsInGraph, StandsBefore, held, keeps_list, ended_lists, makes_digest, no_ends, Proc}
+use Rattle.masm_uses.proofs.Words.{procedure_of, source_of}
 use Rattle.masm_uses.proofs.PlanSources.{row_within, graph_with_is, order_with, plan-lists, plan-digests, steps_end, main_used}
 use Rattle.masm_uses.proofs.DispatchLemmas.{held_within, once_within, holds, targets_before}
 use Rattle.masm_uses.proofs.TargetLemmas.{referred_within, targets_named}

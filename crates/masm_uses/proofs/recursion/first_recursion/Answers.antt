@@ -1,12 +1,5 @@
-use Rattle.std.proofs.Common.{ap, get_or, false, ◌≤◌, ◌<◌, Vec, Global, length, sym, subst, ◌∙◌, arith}
-use Rattle.std.proofs.lemmas.List.{length-map}
-use Rattle.masm_graph.specs.declared.links.Link.{Link}
-use Rattle.masm_names.specs.Among.{AmongFirst}
-use Rattle.masm_uses.specs.Dangling.{Returns}
-use Rattle.graphs.specs.Graph.{rows_of, Leads}
-use Rattle.masm_graph.specs.Users.{HasOwn}
-use Rattle.masm_names.proofs.LeastLemmas.{FindsLeast-with, Among-either, Among-end}
-use Rattle.masm_graph.proofs.UserLemmas.{row_read, row_itself, AreUsers-graph}
+use Rattle.masm_uses.proofs.Words.{ap, get_or, false, ◌≤◌, ◌<◌, Vec, Global, length, sym, subst, ◌∙◌, arith, length-map, Link, AmongFirst, Returns, rows_of}
+use Rattle.masm_uses.proofs.Words.{Leads, HasOwn, FindsLeast-with, Among-either, Among-end, row_read, row_itself, AreUsers-graph}
 use Rattle.masm_uses.proofs.recursion.first_recursion.Goals as goal
 
 pub with_row-requires-clause-graph : goal.with_row-requires-clause-graph

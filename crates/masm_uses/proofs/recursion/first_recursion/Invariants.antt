@@ -1,7 +1,4 @@
-use Rattle.masm_names.specs.Among.{AmongFirst}
-use Rattle.masm_uses.specs.Dangling.{Returns}
-use Rattle.graphs.specs.Graph.{rows_of, Leads}
-use Rattle.masm_names.specs.Least.{FindsLeast}
+use Rattle.masm_uses.proofs.Words.{AmongFirst, Returns, rows_of, Leads, FindsLeast}
 use Rattle.masm_uses.proofs.recursion.first_recursion.Given as goal
 
 abbrev pub invariant-loop-user : goal.invariant-loop-user

@@ -1,8 +1,4 @@
-use Rattle.std.proofs.Common.{◌≡◌, ◌≤◌, true, false, length, get_or, slice_index_or, rules}
-use Rattle.std.proofs.lemmas.List.{get_or_default}
-use Rattle.masm_uses.specs.Dangling.{IsReturn}
-use Rattle.masm_names.proofs.LeastLemmas.{Among-more, Among-end}
-use Rattle.masm_graph.proofs.UserLemmas.{no_link}
+use Rattle.masm_uses.proofs.Words.{◌≡◌, ◌≤◌, true, false, length, get_or, slice_index_or, rules, get_or_default, IsReturn, Among-more, Among-end, no_link}
 use Rattle.masm_uses.proofs.recursion.first_return.Goals as goal
 
 pub loop-link-preserved : goal.loop-link-preserved

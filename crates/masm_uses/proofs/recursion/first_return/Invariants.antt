@@ -1,7 +1,4 @@
-use Rattle.std.proofs.Common.{◌≡◌, true, false, slice_index_or}
-use Rattle.masm_names.specs.Among.{AmongFirst}
-use Rattle.masm_uses.specs.Dangling.{IsReturn}
-use Rattle.masm_names.specs.Least.{FindsLeast}
+use Rattle.masm_uses.proofs.Words.{◌≡◌, true, false, slice_index_or, AmongFirst, IsReturn, FindsLeast}
 use Rattle.masm_uses.proofs.recursion.first_return.Given as goal
 
 abbrev pub invariant-loop-link : goal.invariant-loop-link

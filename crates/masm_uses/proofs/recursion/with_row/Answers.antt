@@ -1,9 +1,6 @@
-use Rattle.std.proofs.Common.{◌≡◌, ℕ, true, false, Some, slice_index_or, rules}
-use Rattle.std.specs.List.{list_any}
-use Rattle.masm_uses.specs.Dangling.{Returns, waits}
-use Rattle.graphs.specs.Graph.{rows_of, Leads}
+use Rattle.masm_uses.proofs.Words.{◌≡◌, ℕ, true, false, Some, slice_index_or, rules, list_any, Returns, waits, rows_of, Leads, FindsLeast-earlier}
+use Rattle.masm_uses.proofs.Words.{FindsLeast-itself, FindsLeast-stays}
 use Rattle.masm_uses.proofs.DanglingLemmas.{Returns-same, none_back, none_waits}
-use Rattle.masm_names.proofs.LeastLemmas.{FindsLeast-earlier, FindsLeast-itself, FindsLeast-stays}
 use Rattle.masm_uses.proofs.recursion.with_row.Goals as goal
 
 pub returns-then-is_settled : goal.returns-then-is_settled

@@ -1,4 +1,4 @@
-use Rattle.std.proofs.Common.{◌-◌, arith, ap}
+use Rattle.sound_evidence.proofs.Words.{◌-◌, arith, ap}
 use Rattle.air_kit.specs.declared.trace.TableName.TheVariants as table
 use Rattle.sound_evidence.proofs.Runs.{is_run}
 use Rattle.sound_evidence.proofs.extracting.run_of.Goals as goal

@@ -1,4 +1,4 @@
-use Rattle.std.proofs.Common.{arith, refl}
+use Rattle.sound_evidence.proofs.Words.{arith, refl}
 use Rattle.vm_ops.specs.declared.op.Op.TheVariants as ops
 use Rattle.sound_evidence.proofs.BlockFound.{wraps}
 use Rattle.sound_evidence.proofs.ReadRows.{bits_at}

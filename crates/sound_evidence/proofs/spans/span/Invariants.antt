@@ -1,5 +1,4 @@
-use Rattle.std.proofs.Common.{◌+◌, ◌-◌, length}
-use Rattle.sound_evidence.specs.Walking.{Takes}
+use Rattle.sound_evidence.proofs.Words.{◌+◌, ◌-◌, length, Takes}
 use Rattle.sound_evidence.proofs.Spanning.{Spanning}
 use Rattle.sound_evidence.proofs.spans.span.Given as goal
 

@@ -1,4 +1,4 @@
-use Rattle.std.proofs.Common.{sym, ◌∙◌}
+use Rattle.table_file.proofs.Words.{sym, ◌∙◌}
 use Rattle.table_file.proofs.Versions.{is_count_in}
 use Rattle.table_file.proofs.counts.read_count.Goals as goal
 

@@ -1,6 +1,4 @@
-use Rattle.std.proofs.Common.{Option, Some, sym, subst, ◌∙◌}
-use Rattle.table_file.specs.declared.part_trace.PartTrace.{PartTrace}
-use Rattle.table_file.specs.Reading.{GoesFurther}
+use Rattle.table_file.proofs.Words.{Option, Some, sym, subst, ◌∙◌, PartTrace, GoesFurther}
 use Rattle.table_file.proofs.Readers.{head_goes}
 use Rattle.table_file.proofs.reader.begin.Goals as goal
 

@@ -1,7 +1,5 @@
-use Rattle.std.proofs.Common.{arith, ◌∙◌}
+use Rattle.table_file.proofs.Words.{arith, ◌∙◌, and_parts, element_at}
 use Rattle.std.proofs.Math.ListN.{length-set}
-use Rattle.std.proofs.lemmas.Bool.{and_parts}
-use Rattle.table_file.specs.Fields.{element_at}
 use Rattle.table_file.proofs.Going.{goes_on_in, ends_in}
 use Rattle.table_file.proofs.rows.are_elements.Goals as goal
 

@@ -1,6 +1,4 @@
-use Rattle.std.proofs.Common.{◌≡◌, ℕ, List, take, length, IsTrue}
-use Rattle.table_file.specs.Fields.{element_at}
-use Rattle.table_file.specs.Reading.{StandsAt}
+use Rattle.table_file.proofs.Words.{◌≡◌, ℕ, List, take, length, IsTrue, element_at, StandsAt}
 use Rattle.table_file.proofs.Going.{Goes}
 use Rattle.table_file.proofs.rows.are_elements.Given as goal
 

@@ -1,8 +1,5 @@
-use Rattle.std.proofs.Common.{◌≡◌, ℕ, ◌+◌, ◌*◌, ◌/◌, ◌∷◌, ◌++◌, [], length, Err, sym, ap, ◌∙◌, arith, append-nil}
-use Rattle.std.proofs.lemmas.List.{length-drop}
+use Rattle.table_file.proofs.Words.{◌≡◌, ℕ, ◌+◌, ◌*◌, ◌/◌, ◌∷◌, ◌++◌, [], length, Err, sym, ap, ◌∙◌, arith, append-nil, length-drop, Bad, element_at}
 use Rattle.table_file.specs.declared.cause.FileCause.TheVariants as cause
-use Rattle.table_file.specs.declared.cause.FileError.TheVariants.{Bad}
-use Rattle.table_file.specs.Fields.{element_at}
 use Rattle.table_file.proofs.Going.{goes_on, stops}
 use Rattle.table_file.proofs.RowReading.{ends_within}
 use Rattle.table_file.proofs.rows.cut_row.Goals as goal

@@ -1,5 +1,4 @@
-use Rattle.std.proofs.Common.{◌≡◌, ℕ, ◌*◌, ◌<◌, List, drop, length}
-use Rattle.table_file.specs.Fields.{element_at}
+use Rattle.table_file.proofs.Words.{◌≡◌, ℕ, ◌*◌, ◌<◌, List, drop, length, element_at}
 use Rattle.table_file.proofs.Going.{Goes}
 use Rattle.table_file.proofs.rows.cut_row.Given as goal
 

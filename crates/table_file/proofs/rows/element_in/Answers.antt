@@ -1,5 +1,4 @@
-use Rattle.std.proofs.Common.{Err, refl, sym, ap, ◌∙◌}
-use Rattle.byteorder.specs.Endian.{little_number}
+use Rattle.table_file.proofs.Words.{Err, refl, sym, ap, ◌∙◌, little_number}
 use Rattle.table_file.proofs.PartReading.{good, wrong}
 use Rattle.table_file.proofs.rows.element_in.Goals as goal
 

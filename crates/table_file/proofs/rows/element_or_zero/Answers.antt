@@ -1,6 +1,4 @@
-use Rattle.std.proofs.Common.{sym, ap, ◌∙◌}
-use Rattle.std.proofs.lemmas.Bool.{false≢true}
-use Rattle.byteorder.specs.Endian.{little_number}
+use Rattle.table_file.proofs.Words.{sym, ap, ◌∙◌, false≢true, little_number}
 use Rattle.table_file.proofs.PartReading.{good}
 use Rattle.table_file.proofs.rows.element_or_zero.Goals as goal
 

@@ -1,9 +1,5 @@
-use Rattle.std.proofs.Common.{arith, subst, sym, ◌*◌, ◌∙◌}
+use Rattle.table_file.proofs.Words.{arith, subst, sym, ◌*◌, ◌∙◌, take_all, err_from_is_err_and, element_at, StandsAt}
 use Rattle.std.proofs.Math.ListN.{length-set}
-use Rattle.std.proofs.lemmas.List.{take_all}
-use Rattle.std.proofs.lemmas.Result.{err_from_is_err_and}
-use Rattle.table_file.specs.Fields.{element_at}
-use Rattle.table_file.specs.Reading.{StandsAt}
 use Rattle.table_file.proofs.Going.{goes_on_in, stops, ends_in}
 use Rattle.table_file.proofs.rows.read_elements.Goals as goal
 

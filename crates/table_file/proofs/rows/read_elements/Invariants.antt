@@ -1,6 +1,4 @@
-use Rattle.std.proofs.Common.{◌≡◌, ℕ, List, take, length}
-use Rattle.table_file.specs.Fields.{element_at}
-use Rattle.table_file.specs.Reading.{StandsAt}
+use Rattle.table_file.proofs.Words.{◌≡◌, ℕ, List, take, length, element_at, StandsAt}
 use Rattle.table_file.proofs.Going.{Goes}
 use Rattle.table_file.proofs.rows.read_elements.Given as goal
 

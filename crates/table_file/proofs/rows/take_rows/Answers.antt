@@ -1,6 +1,4 @@
-use Rattle.std.proofs.Common.{◌≡◌, ◌+◌, ◌-◌, ◌*◌, ◌≤◌, ℕ, drop, take, subst, arith}
-use Rattle.std.proofs.lemmas.Result.{err_from_is_err_and}
-use Rattle.table_file.specs.Reading.{StandsAt}
+use Rattle.table_file.proofs.Words.{◌≡◌, ◌+◌, ◌-◌, ◌*◌, ◌≤◌, ℕ, drop, take, subst, arith, err_from_is_err_and, StandsAt}
 use Rattle.table_file.proofs.RowReading.{reads_more, reads_stop}
 use Rattle.table_file.proofs.rows.take_rows.Goals as goal
 

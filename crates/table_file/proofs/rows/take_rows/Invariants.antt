@@ -1,4 +1,4 @@
-use Rattle.table_file.specs.Reading.{ReadsRows}
+use Rattle.table_file.proofs.Words.{ReadsRows}
 use Rattle.table_file.proofs.rows.take_rows.Given as goal
 
 -- the rows so far

@@ -1,4 +1,4 @@
-use Rattle.std.proofs.Common.{arith}
+use Rattle.table_file.proofs.Words.{arith}
 use Rattle.table_file.proofs.HeadLaws.{few-fit}
 use Rattle.table_file.proofs.writing.add_count.Goals as goal
 

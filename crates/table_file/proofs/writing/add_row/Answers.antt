@@ -1,6 +1,4 @@
-use Rattle.std.proofs.Common.{List, ℕ, ◌++◌, ap, ◌∙◌}
-use Rattle.byteorder.specs.Endian.{little_bytes}
-use Rattle.table_file.specs.Fields.{row_bytes}
+use Rattle.table_file.proofs.Words.{List, ℕ, ◌++◌, ap, ◌∙◌, little_bytes, row_bytes}
 use Rattle.table_file.proofs.PartBytes.{flat}
 use Rattle.table_file.proofs.writing.add_row.Goals as goal
 

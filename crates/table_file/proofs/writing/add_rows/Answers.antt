@@ -1,4 +1,4 @@
-use Rattle.std.proofs.Common.{◌∙◌, arith}
+use Rattle.table_file.proofs.Words.{◌∙◌, arith}
 use Rattle.table_file.proofs.LeftLemmas.{none_left, table_goes, table_past}
 use Rattle.table_file.proofs.writing.add_rows.Goals as goal
 

@@ -1,5 +1,4 @@
-use Rattle.std.proofs.Common.{◌≡◌, ◌-◌, true, []}
-use Rattle.table_file.specs.Left.{left_of}
+use Rattle.table_file.proofs.Words.{◌≡◌, ◌-◌, true, [], left_of}
 use Rattle.table_file.proofs.writing.add_rows.Given as goal
 
 -- the tables that were passed had no further rows

@@ -1,5 +1,4 @@
-use Rattle.std.proofs.Common.{◌≡◌, ◌-◌, ◌<◌, ◌≤◌, ◌++◌, drop, length}
-use Rattle.table_file.specs.Fields.{table_bytes}
+use Rattle.table_file.proofs.Words.{◌≡◌, ◌-◌, ◌<◌, ◌≤◌, ◌++◌, drop, length, table_bytes}
 use Rattle.table_file.proofs.writing.add_table.Given as goal
 
 -- the rows so far are in the room

@@ -1,5 +1,6 @@
-use Rattle.std.proofs.Common.{◌≡◌, List, ℕ, [], ◌∷◌, ◌++◌, get_or, length, refl, sym, ap, ap₂, ◌∙◌, arith}
-use Rattle.std.proofs.lemmas.List.{length-replicate, length-set, take_all, take_more, take_more_set}
+use Rattle.table_file.proofs.Words.{◌≡◌, List, ℕ, [], ◌∷◌, ◌++◌, get_or, length, refl, sym, ap, ap₂, ◌∙◌, arith, length-replicate, take_all, take_more}
+use Rattle.table_file.proofs.Words.{take_more_set}
+use Rattle.std.proofs.lemmas.List.{length-set}
 use Rattle.table_file.proofs.writing.numbers_of.Goals as goal
 
 pub loop-j-init : goal.loop-j-init

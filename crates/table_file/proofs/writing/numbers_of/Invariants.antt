@@ -1,4 +1,4 @@
-use Rattle.std.proofs.Common.{◌≡◌, [], get_or, length, take}
+use Rattle.table_file.proofs.Words.{◌≡◌, [], get_or, length, take}
 use Rattle.table_file.proofs.writing.numbers_of.Given as goal
 
 -- the first elements are there

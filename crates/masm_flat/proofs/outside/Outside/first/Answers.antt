@@ -1,6 +1,4 @@
-use Rattle.std.proofs.Common.{ap, ◌∙◌, sym}
-use Rattle.std.specs.Option.{option_copied}
-use Rattle.masm_names.specs.Names.{place_at}
+use Rattle.masm_flat.proofs.Words.{ap, ◌∙◌, sym, option_copied, place_at}
 use Rattle.masm_flat.proofs.Placed.{found_at, got_at}
 use Rattle.masm_flat.proofs.outside.Outside.first.Goals as goal
 

@@ -1,10 +1,6 @@
-use Rattle.std.proofs.Common.{◌<◌, ◌++◌, length, get_or, Some, inl, inr, sym, ap, ◌∙◌, append-nil, arith}
+use Rattle.masm_flat.proofs.Words.{◌<◌, ◌++◌, length, get_or, Some, inl, inr, sym, ap, ◌∙◌, arith, false≢true, eqb_tells, length-set, list_at, pieces_of}
+use Rattle.std.proofs.Common.{append-nil}
 use Rattle.std.specs.Prelude.{slice_get}
-use Rattle.std.proofs.lemmas.Bool.{false≢true}
-use Rattle.std.proofs.lemmas.Bool.Decides.{eqb_tells}
-use Rattle.std.proofs.lemmas.List.{length-set}
-use Rattle.masm_flat.specs.KnownLists.{list_at}
-use Rattle.masm_flat.specs.Views.{pieces_of}
 use Rattle.masm_flat.proofs.Served.{on_ok, got_other, list_read, list_past}
 use Rattle.masm_flat.proofs.table.Table.add_list.Goals as goal
 

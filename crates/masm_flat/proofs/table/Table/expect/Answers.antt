@@ -1,7 +1,6 @@
-use Rattle.std.proofs.Common.{◌+◌, ◌<◌, length, set, take, get_or, inl, inr, sym, ap, ◌∙◌, arith}
+use Rattle.masm_flat.proofs.Words.{◌+◌, ◌<◌, length, set, take, get_or, inl, inr, sym, ap, ◌∙◌, arith, eqb_tells, length-take-le, length-set, get_or_read}
+use Rattle.masm_flat.proofs.Words.{get_or-set_same, get_or-set_other}
 use Rattle.std.specs.Prelude.{nat_eq}
-use Rattle.std.proofs.lemmas.Bool.Decides.{eqb_tells}
-use Rattle.std.proofs.lemmas.List.{length-take-le, length-set, get_or_read, get_or-set_same, get_or-set_other}
 use Rattle.std.proofs.lemmas.List.Sums.{count_by-le-length, count_by_more_yes, count_by_more_no}
 use Rattle.masm_flat.proofs.table.Table.expect.Goals as goal
 use Rattle.masm_flat.proofs.table.Table.expect.Goals.{then-place-len, else-place-len}

@@ -1,4 +1,4 @@
-use Rattle.std.proofs.Common.{◌≡◌, ℕ, ◌<◌, length, take, get_or}
+use Rattle.masm_flat.proofs.Words.{◌≡◌, ℕ, ◌<◌, length, take, get_or}
 use Rattle.masm_names.specs.UsedPlaces.{times_among}
 use Rattle.masm_flat.proofs.table.Table.expect.Given as goal
 

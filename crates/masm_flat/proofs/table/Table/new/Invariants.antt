@@ -1,4 +1,4 @@
-use Rattle.std.proofs.Common.{◌≡◌, length}
+use Rattle.masm_flat.proofs.Words.{◌≡◌, length}
 use Rattle.masm_flat.proofs.table.Table.new.Given as goal
 
 abbrev pub invariant-loop : goal.invariant-loop

@@ -1,11 +1,5 @@
-use Rattle.std.proofs.Common.{◌≡◌, Vec, Global, ap, ◌∙◌}
-use Rattle.masm_flat.specs.Blocks.{as_tree}
+use Rattle.masm_tables.proofs.Words.{◌≡◌, Vec, Global, ap, ◌∙◌, as_tree, flat_with, lists_known, with_locals, pieces_of, body_of}
 use Rattle.masm_flat.specs.declared.piece.Piece.{Piece}
-use Rattle.masm_flat.specs.Flattening.{flat_with}
-use Rattle.masm_flat.specs.KnownLists.{lists_known}
-use Rattle.masm_flat.specs.Lists.{with_locals}
-use Rattle.masm_flat.specs.Views.{pieces_of}
-use Rattle.masm_tree.specs.Views.{body_of}
 use Rattle.masm_tables.proofs.Put.{puts_as}
 use Rattle.masm_tables.proofs.listing.Listings.add_step.Goals as goal
 

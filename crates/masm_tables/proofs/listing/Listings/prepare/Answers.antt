@@ -1,6 +1,4 @@
-use Rattle.std.proofs.Common.{sym, ap, ◌∙◌}
-use Rattle.masm_flat.specs.KnownLists.{dispatch_of}
-use Rattle.masm_tree.specs.Views.{body_of}
+use Rattle.masm_tables.proofs.Words.{sym, ap, ◌∙◌, dispatch_of, body_of}
 use Rattle.masm_tables.proofs.Prepared.{prepares_kept, prepares_none, prepares_made}
 use Rattle.masm_tables.proofs.listing.Listings.prepare.Goals as goal
 

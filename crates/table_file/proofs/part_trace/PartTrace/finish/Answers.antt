@@ -1,4 +1,4 @@
-use Rattle.std.proofs.Common.{arith}
+use Rattle.table_file.proofs.Words.{arith}
 use Rattle.table_file.proofs.PartTraces.{cut, ended}
 use Rattle.table_file.proofs.TablesByName.{size_at, size_past}
 use Rattle.table_file.proofs.part_trace.PartTrace.finish.Goals as goal

@@ -1,4 +1,4 @@
-use Rattle.std.proofs.Common.{◌∙◌, arith}
+use Rattle.table_file.proofs.Words.{◌∙◌, arith}
 use Rattle.std.proofs.lemmas.List.Sums.{sum_by-drop_more}
 use Rattle.table_file.proofs.PartTraces.{passes}
 use Rattle.table_file.proofs.part_trace.PartTrace.pass_ended.Goals as goal

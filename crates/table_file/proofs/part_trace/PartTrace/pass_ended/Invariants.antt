@@ -1,5 +1,4 @@
-use Rattle.std.proofs.Common.{◌≡◌, ◌-◌, ℕ, List, length}
-use Rattle.table_file.specs.Reading.{PlacesAreSmall, rest_of}
+use Rattle.table_file.proofs.Words.{◌≡◌, ◌-◌, ℕ, List, length, PlacesAreSmall, rest_of}
 use Rattle.table_file.proofs.part_trace.PartTrace.pass_ended.Given as goal
 
 -- the same is to come

@@ -1,5 +1,4 @@
-use Rattle.std.proofs.Common.{◌≤◌, length, ◌∙◌, arith}
-use Rattle.std.proofs.lemmas.Result.{err_from_is_err_and}
+use Rattle.table_file.proofs.Words.{◌≤◌, length, ◌∙◌, arith, err_from_is_err_and}
 use Rattle.table_file.proofs.PartTraces.{extra, reads, row_stops}
 use Rattle.table_file.proofs.TablesByName.{size_at, size_past}
 use Rattle.table_file.proofs.part_trace.PartTrace.take_rows.Goals as goal

@@ -1,9 +1,4 @@
-use Rattle.std.proofs.Common.{◌<◌, List, ℕ, Option, Err, length, sym, ap, subst, ◌∙◌, arith}
-use Rattle.air_kit.specs.declared.trace.Trace.{Trace}
-use Rattle.table_file.specs.declared.part_trace.PartTrace.{PartTrace}
-use Rattle.table_file.specs.Fields.{GivesRead}
-use Rattle.table_file.specs.Files.{trace_of}
-use Rattle.table_file.specs.Reading.{Reader, wanted}
+use Rattle.table_file.proofs.Words.{◌<◌, List, ℕ, Option, Err, length, sym, ap, subst, ◌∙◌, arith, Trace, PartTrace, GivesRead, trace_of, Reader, wanted}
 use Rattle.table_file.proofs.Readers.{answer_of, carried_all, head_bad, head_whole}
 use Rattle.table_file.proofs.reader.TableReader.answer.Goals as goal
 

@@ -1,7 +1,5 @@
-use Rattle.std.proofs.Common.{◌≡◌, ◌≤◌, true, List, ℕ, take, drop, length, ◌++◌, sym, ap, subst, ◌∙◌, append-nil, arith}
-use Rattle.std.proofs.lemmas.List.{length-drop, take_rest}
-use Rattle.std.specs.Option.{is_some}
-use Rattle.table_file.specs.Reading.{HasRead, HasTaken, Reader}
+use Rattle.table_file.proofs.Words.{◌≡◌, ◌≤◌, true, List, ℕ, take, drop, length, ◌++◌, sym, ap, subst, ◌∙◌, append-nil, arith, length-drop, take_rest}
+use Rattle.table_file.proofs.Words.{is_some, HasRead, HasTaken, Reader}
 use Rattle.table_file.proofs.Readers.{read_further, read_so_far, stays, taken_both, taken_so_far}
 use Rattle.table_file.proofs.reader.TableReader.take_whole.Goals as goal
 

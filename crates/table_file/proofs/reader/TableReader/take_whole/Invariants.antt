@@ -1,5 +1,4 @@
-use Rattle.std.proofs.Common.{◌≡◌, ◌-◌, ◌≤◌, List, ℕ, [], ◌++◌, length, take}
-use Rattle.table_file.specs.Reading.{HasRead, HasTaken}
+use Rattle.table_file.proofs.Words.{◌≡◌, ◌-◌, ◌≤◌, List, ℕ, [], ◌++◌, length, take, HasRead, HasTaken}
 use Rattle.table_file.proofs.reader.TableReader.take_whole.Given as goal
 
 -- the piece is read so far

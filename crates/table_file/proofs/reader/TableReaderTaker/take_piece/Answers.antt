@@ -1,6 +1,4 @@
-use Rattle.std.proofs.Common.{◌≡◌, true, sym, ap, subst}
-use Rattle.std.specs.Option.{is_some}
-use Rattle.table_file.specs.Reading.{Reader}
+use Rattle.table_file.proofs.Words.{◌≡◌, true, sym, ap, subst, is_some, Reader}
 use Rattle.table_file.proofs.Readers.{taken_stopped}
 use Rattle.table_file.proofs.reader.TableReaderTaker.take_piece.Goals as goal
 

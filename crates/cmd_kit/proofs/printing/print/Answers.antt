@@ -1,6 +1,6 @@
-use Rattle.std.proofs.Common.{refl}
+use Rattle.cmd_kit.proofs.Words.{refl}
 use Rattle.cmd_kit.specs.Outcomes.{printed, refused, given_up}
-use Rattle.miden_app.proofs.serving.print.Goals as goal
+use Rattle.cmd_kit.proofs.printing.print.Goals as goal
 
 pub returns-in-Ok : goal.returns-in-Ok
 returns-in-Ok g c = rw c.in-Ends.is (printed c.in-Ends.answer (rw c.as_slice.ensures.items at c.in-Ok.ensures.step))

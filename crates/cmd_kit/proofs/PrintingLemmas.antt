@@ -1,14 +1,9 @@
 -- From a command's work and the printing of its line to what `serve` leaves.
-use Rattle.std.proofs.Common.{Option, Some, None, inl, inr}
-use Rattle.vm_io.specs.Shelf.{Files, ShelfState}
-use Rattle.vm_io.specs.Sink.{SinkState}
-use Rattle.cmd_kit.specs.declared.status.Status.{Status}
-use Rattle.cmd_kit.specs.declared.answer.Answer.{Answer}
+use Rattle.cmd_kit.proofs.Words.{Option, Some, None, inl, inr, Files, ShelfState, SinkState, Status, Answer, StatusKind, planned, no_command, failed_read}
+use Rattle.cmd_kit.proofs.Words.{failed_write, failed_print, kind_of, Steps, ComesWhere, Works, GivesUp, Prints, ServesAs}
 use Rattle.cmd_kit.specs.declared.outcome.Outcome.{Outcome}
 use Rattle.cmd_kit.specs.declared.outcome.Outcome.TheVariants as outcome
-use Rattle.cmd_kit.specs.Statuses.{StatusKind, planned, no_command, failed_read, failed_write, failed_print, no_memory, kind_of}
-use Rattle.cmd_kit.specs.Steps.{Steps}
-use Rattle.cmd_kit.specs.Serving.{ComesWhere, Works, GivesUp, Prints, ServesAs}
+use Rattle.cmd_kit.specs.Statuses.{no_memory}
 use Rattle.cmd_kit.specs.Outcomes.{EndsIn, PrintStep, printed, refused, given_up}
 
 weaker : (told : Option Files) (steps : Steps) (P Q : Steps → Option Files → Type 0) → ((left : Steps) (now : Option Files) → P left now → Q left now)

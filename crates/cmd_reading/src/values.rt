@@ -3,9 +3,9 @@ ghost use Rattle.std.specs.Prelude.{◌≡◌, ◌≤◌, length, option_map, If
 ghost use Rattle.vm_field.specs.Limits.{most_name_bytes};
 ghost use Rattle.cmd_words.specs.Words.{file_name_of, number_of_word, optional};
 ghost use Rattle.cmd_reading.specs.Meaning.{text_at, texts_read};
-ghost use Rattle.miden_app.specs.Forms.{name_in, number_in as number_at_place, option_name, option_number};
+ghost use Rattle.cmd_reading.specs.Values.{name_in, number_in as number_at_place, option_name, option_number, option_number_or_most};
 
-use cmd_reading::ReadWords;
+use crate::reading::ReadWords;
 use cmd_words::{file_name, number_in};
 
 /// The file name at a place.
@@ -66,6 +66,21 @@ pub fn free_number(least: u64, most: u64, read: &ReadWords<'_>, i: usize) -> Opt
     ensures small { IfSome result (λ o. IfSome o (λ n. n ≤ most)) }
 {
     optional_number(least, most, read.free(i))
+}
+
+/// The number from `least` to `most` that an option which may stand gives, and `most` where it does
+/// not stand. `None` where its text is no such number.
+pub fn free_number_or_most(least: u64, most: u64, read: &ReadWords<'_>, i: usize) -> Option<u64>
+    requires some { least ≤ most }
+    ensures number { result ≡ option_number_or_most least most i (texts_read read.now).free }
+    ensures large { IfSome result (λ n. least ≤ n) }
+    ensures small { IfSome result (λ n. n ≤ most) }
+{
+    match free_number(least, most, read, i) {
+        Some(Some(number)) => Some(number),
+        Some(None) => Some(most),
+        None => None,
+    }
 }
 
 // A text as a number from `least` to `most`, if there is a text.
