@@ -11,5 +11,6 @@ mod refusal;
 
 pub use assembling::{assemble, assemble_with};
 pub use laws::{assembled_trees, library_laws, one_program, one_refusal, types_cross};
-pub use library::Library;
+pub use library::{Library, with_library};
+pub use reading::read;
 pub use refusal::{AsmCause, AsmError, cause_text};

@@ -143,8 +143,8 @@ impl Library {
     }
 }
 
-// A source with the library's procedures behind its own, but for those whose names it defines.
-pub(crate) fn with_library(alloc: Global, library: &Library, source: Ast) -> Result<Ast, Memory>
+/// A source with the library's procedures behind its own, but for those whose names it defines.
+pub fn with_library(alloc: Global, library: &Library, source: Ast) -> Result<Ast, Memory>
     ensures whole { IfOk result (λ whole. source_of whole ≡ with_library library.now (source_of source)) }
     ensures main { IfOk result (λ whole. whole.main ≡ source.main) }
     ensures fits { SourceFits (source_of source) → IfOk result (λ whole. SourceFits (source_of whole)) }

@@ -11,9 +11,13 @@ use masm_parse::{least_refusal, locals_fit, parse};
 use masm_tree::Ast;
 use std::alloc::Global;
 
-// The syntax tree of a source, a kernel's or a program's, or its first refusal.
+/// The syntax tree of a source, a kernel's or a program's.
+///
+/// # Errors
+///
+/// `Bad` names the first refusal by the rules of tokens and of the grammar.
 #[tactic(auto, unfolding(crate::specs::Assembling::reads))]
-pub(crate) fn read(alloc: Global, text: &[u8], is_kernel: bool) -> Result<Ast, AsmError>
+pub fn read(alloc: Global, text: &[u8], is_kernel: bool) -> Result<Ast, AsmError>
     requires { length text.now ≤ MAX_SOURCE }
     ensures reads { Gives source_of refusal_in result (reads is_kernel text.now) }
     ensures fits { IfOk result (λ ast. SourceFits (source_of ast)) }

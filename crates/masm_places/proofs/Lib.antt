@@ -1,0 +1,4 @@
+pub mod Statements
+pub mod Settling
+pub mod Fitting
+pub mod Honesty

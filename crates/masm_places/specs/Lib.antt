@@ -1,0 +1,9 @@
+pub mod Origins
+pub mod Texts
+pub mod Indexed
+pub mod Pending
+pub mod Silent
+pub mod Steps
+pub mod Walks
+pub mod Told
+pub mod Honest

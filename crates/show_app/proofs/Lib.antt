@@ -1,0 +1,5 @@
+pub mod CountedLemmas
+pub mod ExplainLemmas
+pub mod FormLaws
+pub mod QuietLemmas
+pub mod ShowLemmas

@@ -1,0 +1,2 @@
+pub mod CycleLines
+pub mod NextLine

@@ -1,0 +1,9 @@
+pub mod Columns
+pub mod CountText
+pub mod EvidenceLines
+pub mod EvidenceText
+pub mod ExplainText
+pub mod Reads
+pub mod RowText
+pub mod RunText
+pub mod Words

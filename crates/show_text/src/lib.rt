@@ -1,0 +1,19 @@
+//! What is told of a trace by the names of docs/CONSTRAINTS.md: its tables, the operations of its run, and rows cell by cell; and
+//! evidence with the operations of its batches.
+#![tactic(auto)]
+
+mod columns;
+mod counts;
+mod evidence;
+mod explain;
+mod form;
+mod rows;
+mod run;
+mod words;
+
+pub use columns::column_names;
+pub use counts::{append_row_count, append_rows_line, append_statement_count};
+pub use evidence::{EvidenceError, told_evidence};
+pub use explain::{append_fault, append_tuple};
+pub use rows::append_rows;
+pub use run::run_text;

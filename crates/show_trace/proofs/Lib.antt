@@ -1,0 +1,5 @@
+pub mod CutLemmas
+pub mod SceneLemmas
+pub mod TellLemmas
+pub mod TraceEnds
+pub mod TraceReads

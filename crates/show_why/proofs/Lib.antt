@@ -1,0 +1,4 @@
+pub mod Blanks
+pub mod Moved
+pub mod MovedLists
+pub mod WhyLemmas

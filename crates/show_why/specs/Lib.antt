@@ -1,0 +1,9 @@
+pub mod Facts
+pub mod Forms
+pub mod Lines
+pub mod RefusalLaws
+pub mod Scenes
+pub mod Sentences
+pub mod Sights
+pub mod Views
+pub mod WhySteps

@@ -1,0 +1,17 @@
+//! Why a source is refused, in words (docs/SHOW.md, "why"): the line of the place with a mark under it, and a sentence with the facts
+//! by the cause.
+#![tactic(auto)]
+
+mod defined;
+mod facts;
+mod forms;
+mod laws;
+mod lines;
+mod scene;
+mod sentences;
+mod sight;
+mod syntax;
+mod whying;
+
+pub use laws::refusals_know_no_constants;
+pub use whying::{WhyNames, why_files};

@@ -1,0 +1,7 @@
+mod content;
+mod evidence;
+mod explain;
+mod row;
+mod show;
+mod source;
+mod words;

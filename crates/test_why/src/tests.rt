@@ -1,0 +1,6 @@
+mod content;
+mod large;
+mod names;
+mod numbers;
+mod row;
+mod syntax;
