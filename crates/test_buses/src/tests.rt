@@ -29,161 +29,45 @@ struct Case {
     given: u128,
 }
 
+// A case is a line: the row's number, its operation, its cells and those of the row behind it, each by its column, and the tuple.
+macro_rules! cases {
+    ($(
+        $number:literal $op:ident [$($column:literal = $cell:literal)*] [$($below:literal = $behind:literal)*]
+        => $bus:ident [$($element:literal)*] $asked:literal $given:literal;
+    )*) => {
+        [$(Case {
+            number: $number,
+            op: Op::$op,
+            cells: &[$(($column, $cell)),*],
+            next: &[$(($below, $behind)),*],
+            bus: Bus::$bus,
+            tuple: &[$($element),*],
+            asked: $asked,
+            given: $given,
+        }),*]
+    };
+}
+
 // Columns: 0 the clock, 2 the context, 8 the address, 16 the hash elements, 24 the bit of spans, 25 the
 // count of groups, 27 the flags of a batch, 30 the stack, 46 its depth, 47 the key, 49 the address of
 // the batch, 50 the level, 51 witnesses, 55 limbs.
-static CASES: [Case; 15] = [
-    Case {
-        number: 3,
-        op: Op::Span,
-        cells: &[(8, 4)],
-        next: &[(8, 5)],
-        bus: Bus::Blocks,
-        tuple: &[5, 4, 2, 0, 0, 0, 0, 0, 0, 0, 0, 0],
-        asked: 0,
-        given: 1,
-    },
-    Case {
-        number: 3,
-        op: Op::End,
-        cells: &[(8, 5), (22, 1)],
-        next: &[(8, 4), (0, 7), (1, 8), (2, 9), (46, 16)],
-        bus: Bus::Blocks,
-        tuple: &[5, 4, 3, 9, 8, 0, 16, 0, 0, 0, 0, 0],
-        asked: 1,
-        given: 0,
-    },
-    Case {
-        number: 0,
-        op: Op::Noop,
-        cells: &[],
-        next: &[],
-        bus: Bus::Children,
-        tuple: &[0, 11, 12, 13, 14, 0],
-        asked: 0,
-        given: 1,
-    },
-    Case {
-        number: 3,
-        op: Op::Split,
-        cells: &[(16, 1), (20, 2), (21, 3)],
-        next: &[(8, 5)],
-        bus: Bus::Children,
-        tuple: &[5, 2, 3, 0, 0, 0],
-        asked: 0,
-        given: 1,
-    },
-    Case {
-        number: 3,
-        op: Op::Dyn,
-        cells: &[(30, 4), (31, 3), (32, 2), (33, 1)],
-        next: &[(8, 25)],
-        bus: Bus::Children,
-        tuple: &[25, 1, 2, 3, 4, 0],
-        asked: 0,
-        given: 1,
-    },
-    Case {
-        number: 3,
-        op: Op::Dyn,
-        cells: &[],
-        next: &[(8, 25)],
-        bus: Bus::Hasher,
-        tuple: &[1, 25, 80, 0, 0, 0, 0, 0, 0, 0, 0],
-        asked: 1,
-        given: 0,
-    },
-    Case {
-        number: 3,
-        op: Op::Loop,
-        cells: &[(16, 1), (17, 2), (51, 6)],
-        next: &[(8, 5)],
-        bus: Bus::Loops,
-        tuple: &[5, 1, 2, 0, 0],
-        asked: 0,
-        given: 6,
-    },
-    Case {
-        number: 3,
-        op: Op::Respan,
-        cells: &[(28, 1), (17, 21), (18, 22), (19, 23)],
-        next: &[(49, 9)],
-        bus: Bus::Groups,
-        tuple: &[9, 1, 23],
-        asked: 0,
-        given: 1,
-    },
-    Case {
-        number: 3,
-        op: Op::Pad,
-        cells: &[(0, 3), (45, 8), (47, 2)],
-        next: &[],
-        bus: Bus::Overflow,
-        tuple: &[3, 8, 2],
-        asked: 0,
-        given: 1,
-    },
-    Case {
-        number: 3,
-        op: Op::Drop,
-        cells: &[(46, 17), (45, 8), (47, 2)],
-        next: &[(45, 9), (47, 1)],
-        bus: Bus::Overflow,
-        tuple: &[2, 9, 1],
-        asked: 1,
-        given: 0,
-    },
-    Case {
-        number: 3,
-        op: Op::HPerm,
-        cells: &[(51, 9), (30, 1), (41, 12)],
-        next: &[],
-        bus: Bus::Hasher,
-        tuple: &[4, 9, 12, 0, 0, 0, 0, 0, 0, 0, 0, 0, 0, 1],
-        asked: 1,
-        given: 0,
-    },
-    Case {
-        number: 3,
-        op: Op::U32Xor,
-        cells: &[(30, 5), (31, 6)],
-        next: &[(30, 3)],
-        bus: Bus::Bitwise,
-        tuple: &[1, 5, 6, 3],
-        asked: 1,
-        given: 0,
-    },
-    Case {
-        number: 3,
-        op: Op::MStore,
-        cells: &[(0, 3), (2, 4), (30, 5), (31, 6), (55, 7)],
-        next: &[],
-        bus: Bus::Memory,
-        tuple: &[2, 4, 5, 3, 6, 7, 0, 0],
-        asked: 1,
-        given: 0,
-    },
-    Case {
-        number: 3,
-        op: Op::U32Div,
-        cells: &[],
-        next: &[],
-        bus: Bus::Range,
-        tuple: &[0],
-        asked: 10,
-        given: 0,
-    },
-    Case {
-        number: 3,
-        op: Op::Syscall,
-        cells: &[(16, 1), (19, 4)],
-        next: &[],
-        bus: Bus::Kernel,
-        tuple: &[1, 0, 0, 4],
-        asked: 1,
-        given: 0,
-    },
-];
+static CASES: [Case; 15] = cases! {
+    3 Span [8=4] [8=5] => Blocks [5 4 2 0 0 0 0 0 0 0 0 0] 0 1;
+    3 End [8=5 22=1] [8=4 0=7 1=8 2=9 46=16] => Blocks [5 4 3 9 8 0 16 0 0 0 0 0] 1 0;
+    0 Noop [] [] => Children [0 11 12 13 14 0] 0 1;
+    3 Split [16=1 20=2 21=3] [8=5] => Children [5 2 3 0 0 0] 0 1;
+    3 Dyn [30=4 31=3 32=2 33=1] [8=25] => Children [25 1 2 3 4 0] 0 1;
+    3 Dyn [] [8=25] => Hasher [1 25 80 0 0 0 0 0 0 0 0] 1 0;
+    3 Loop [16=1 17=2 51=6] [8=5] => Loops [5 1 2 0 0] 0 6;
+    3 Respan [28=1 17=21 18=22 19=23] [49=9] => Groups [9 1 23] 0 1;
+    3 Pad [0=3 45=8 47=2] [] => Overflow [3 8 2] 0 1;
+    3 Drop [46=17 45=8 47=2] [45=9 47=1] => Overflow [2 9 1] 1 0;
+    3 HPerm [51=9 30=1 41=12] [] => Hasher [4 9 12 0 0 0 0 0 0 0 0 0 0 1] 1 0;
+    3 U32Xor [30=5 31=6] [30=3] => Bitwise [1 5 6 3] 1 0;
+    3 MStore [0=3 2=4 30=5 31=6 55=7] [] => Memory [2 4 5 3 6 7 0 0] 1 0;
+    3 U32Div [] [] => Range [0] 10 0;
+    3 Syscall [16=1 19=4] [] => Kernel [1 0 0 4] 1 0;
+};
 
 fn cells_of(op: Op, changes: &[(usize, u32)]) -> [Felt; 65] {
     let mut cells = [Felt::ZERO; 65];

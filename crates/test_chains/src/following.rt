@@ -29,82 +29,36 @@ struct Row {
     follows: bool,
 }
 
-static ROWS: [Row; 14] = [
+macro_rules! rows {
+    ($([$($output:literal)*] [$($input:literal)*] => $follows:literal;)*) => {
+        [$(Row {
+            outputs: &[$($output),*],
+            inputs: &[$($input),*],
+            follows: $follows,
+        }),*]
+    };
+}
+
+static ROWS: [Row; 14] = rows! {
     // sixteen zeros are what a run without inputs starts with, or with fewer zeros
-    Row {
-        outputs: &[0, 0, 0, 0, 0, 0, 0, 0, 0, 0, 0, 0, 0, 0, 0, 0],
-        inputs: &[],
-        follows: true,
-    },
-    Row {
-        outputs: &[0, 0, 0, 0, 0, 0, 0, 0, 0, 0, 0, 0, 0, 0, 0, 0],
-        inputs: &[0, 0],
-        follows: true,
-    },
-    Row {
-        outputs: &[0, 0, 0, 0, 0, 0, 0, 0, 0, 0, 0, 0, 0, 0, 0, 0],
-        inputs: &[1],
-        follows: false,
-    },
+    [0 0 0 0 0 0 0 0 0 0 0 0 0 0 0 0] [] => true;
+    [0 0 0 0 0 0 0 0 0 0 0 0 0 0 0 0] [0 0] => true;
+    [0 0 0 0 0 0 0 0 0 0 0 0 0 0 0 0] [1] => false;
     // inputs are filled up with zeros below
-    Row {
-        outputs: &[3, 4, 0, 0, 0, 0, 0, 0, 0, 0, 0, 0, 0, 0, 0, 0],
-        inputs: &[3, 4],
-        follows: true,
-    },
-    Row {
-        outputs: &[3, 4, 0, 0, 0, 0, 0, 0, 0, 0, 0, 0, 0, 0, 0, 0],
-        inputs: &[3, 4, 0, 0, 0, 0, 0, 0, 0, 0, 0, 0, 0, 0, 0, 0],
-        follows: true,
-    },
-    Row {
-        outputs: &[3, 4, 0, 0, 0, 0, 0, 0, 0, 0, 0, 0, 0, 0, 0, 0],
-        inputs: &[3],
-        follows: false,
-    },
-    Row {
-        outputs: &[3, 4, 0, 0, 0, 0, 0, 0, 0, 0, 0, 0, 0, 0, 0, 0],
-        inputs: &[4, 3],
-        follows: false,
-    },
-    Row {
-        outputs: &[3, 4, 0, 0, 0, 0, 0, 0, 0, 0, 0, 0, 0, 0, 0, 9],
-        inputs: &[3, 4],
-        follows: false,
-    },
+    [3 4 0 0 0 0 0 0 0 0 0 0 0 0 0 0] [3 4] => true;
+    [3 4 0 0 0 0 0 0 0 0 0 0 0 0 0 0] [3 4 0 0 0 0 0 0 0 0 0 0 0 0 0 0] => true;
+    [3 4 0 0 0 0 0 0 0 0 0 0 0 0 0 0] [3] => false;
+    [3 4 0 0 0 0 0 0 0 0 0 0 0 0 0 0] [4 3] => false;
+    [3 4 0 0 0 0 0 0 0 0 0 0 0 0 0 9] [3 4] => false;
     // sixteen cells
-    Row {
-        outputs: &[1, 2, 3, 4, 5, 6, 7, 8, 9, 10, 11, 12, 13, 14, 15, 16],
-        inputs: &[1, 2, 3, 4, 5, 6, 7, 8, 9, 10, 11, 12, 13, 14, 15, 16],
-        follows: true,
-    },
-    Row {
-        outputs: &[1, 2, 3, 4, 5, 6, 7, 8, 9, 10, 11, 12, 13, 14, 15, 16],
-        inputs: &[1, 2, 3, 4, 5, 6, 7, 8, 9, 10, 11, 12, 13, 14, 15],
-        follows: false,
-    },
-    Row {
-        outputs: &[1, 2, 3, 4, 5, 6, 7, 8, 9, 10, 11, 12, 13, 14, 15, 16],
-        inputs: &[1, 2, 3, 4, 5, 6, 7, 8, 9, 10, 11, 12, 13, 14, 15, 17],
-        follows: false,
-    },
+    [1 2 3 4 5 6 7 8 9 10 11 12 13 14 15 16] [1 2 3 4 5 6 7 8 9 10 11 12 13 14 15 16] => true;
+    [1 2 3 4 5 6 7 8 9 10 11 12 13 14 15 16] [1 2 3 4 5 6 7 8 9 10 11 12 13 14 15] => false;
+    [1 2 3 4 5 6 7 8 9 10 11 12 13 14 15 16] [1 2 3 4 5 6 7 8 9 10 11 12 13 14 15 17] => false;
     // a seventeenth cell is one too many, and be it a zero
-    Row {
-        outputs: &[0, 0, 0, 0, 0, 0, 0, 0, 0, 0, 0, 0, 0, 0, 0, 0, 0],
-        inputs: &[],
-        follows: false,
-    },
-    Row {
-        outputs: &[1, 2, 3, 4, 5, 6, 7, 8, 9, 10, 11, 12, 13, 14, 15, 16, 0],
-        inputs: &[1, 2, 3, 4, 5, 6, 7, 8, 9, 10, 11, 12, 13, 14, 15, 16],
-        follows: false,
-    },
-    Row {
-        outputs: &[1, 2, 3, 4, 5, 6, 7, 8, 9, 10, 11, 12, 13, 14, 15, 16, 17],
-        inputs: &[1, 2, 3, 4, 5, 6, 7, 8, 9, 10, 11, 12, 13, 14, 15, 16],
-        follows: false,
-    },
-];
+    [0 0 0 0 0 0 0 0 0 0 0 0 0 0 0 0 0] [] => false;
+    [1 2 3 4 5 6 7 8 9 10 11 12 13 14 15 16 0] [1 2 3 4 5 6 7 8 9 10 11 12 13 14 15 16] => false;
+    [1 2 3 4 5 6 7 8 9 10 11 12 13 14 15 16 17] [1 2 3 4 5 6 7 8 9 10 11 12 13 14 15 16] => false;
+};
 
 #[test]
 fn follows_where_the_stacks_agree(rt: HostRuntime) -> Result<(), Fail> {

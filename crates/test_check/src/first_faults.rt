@@ -16,69 +16,43 @@ struct Case {
     fault: Option<(TableName, u32, u16)>,
 }
 
-static CASES: [Case; 8] = [
+// A case is a line: the cells that are changed, each with its table, row, column and value, and the fault.
+macro_rules! cases {
+    ($([$($table:ident $row:literal $column:literal $value:literal)?] => $fault:ident $($at:literal $number:literal)?;)*) => {
+        [$(Case {
+            changes: &[$(Change {
+                table: TableName::$table,
+                cell: ($row, $column, $value),
+            })?],
+            fault: cases!(@fault $fault $($at $number)?),
+        }),*]
+    };
+    (@fault none) => {
+        None
+    };
+    (@fault $table:ident $row:literal $number:literal) => {
+        Some((TableName::$table, $row, $number))
+    };
+}
+
+static CASES: [Case; 8] = cases! {
     // nothing that is changed
-    Case {
-        changes: &[],
-        fault: None,
-    },
+    [] => none;
     // the positions that are left behind SPAN
-    Case {
-        changes: &[Change {
-            table: TableName::Main,
-            cell: (1, 25, 1),
-        }],
-        fault: Some((TableName::Main, 0, 105)),
-    },
+    [Main 1 25 1] => Main 0 105;
     // a cell that changes behind END
-    Case {
-        changes: &[Change {
-            table: TableName::Main,
-            cell: (3, 45, 1),
-        }],
-        fault: Some((TableName::Main, 2, 134)),
-    },
+    [Main 3 45 1] => Main 2 134;
     // the first value of the range table
-    Case {
-        changes: &[Change {
-            table: TableName::Range,
-            cell: (0, 1, 1),
-        }],
-        fault: Some((TableName::Range, 0, 1)),
-    },
+    [Range 0 1 1] => Range 0 1;
     // its last value, which is 65535
-    Case {
-        changes: &[Change {
-            table: TableName::Range,
-            cell: (37, 1, 65536),
-        }],
-        fault: Some((TableName::Range, 36, 3)),
-    },
+    [Range 37 1 65536] => Range 36 3;
     // an element of the third state of a permutation
-    Case {
-        changes: &[Change {
-            table: TableName::Hasher,
-            cell: (3, 8, 1),
-        }],
-        fault: Some((TableName::Hasher, 2, 23)),
-    },
+    [Hasher 3 8 1] => Hasher 2 23;
     // the result of a bitwise operation's sixth row
-    Case {
-        changes: &[Change {
-            table: TableName::Bitwise,
-            cell: (5, 11, 1),
-        }],
-        fault: Some((TableName::Bitwise, 4, 16)),
-    },
+    [Bitwise 5 11 1] => Bitwise 4 16;
     // an element of a word that is read a second time
-    Case {
-        changes: &[Change {
-            table: TableName::Memory,
-            cell: (1, 7, 1),
-        }],
-        fault: Some((TableName::Memory, 0, 17)),
-    },
-];
+    [Memory 1 7 1] => Memory 0 17;
+};
 
 fn is_fault(found: &Option<Fault>, fault: Option<(TableName, u32, u16)>) -> bool {
     match (found, fault) {

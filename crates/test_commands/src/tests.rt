@@ -1,5 +1,6 @@
 mod assemble;
 mod built;
+mod calls;
 mod chain;
 mod check;
 mod content;

@@ -1,4 +1,4 @@
-use crate::tests::{Cell, NO_CONSTANTS, filled, program, program_over, shows, span};
+use crate::tests::{Cell, NO_CONSTANTS, cells, filled, program, program_over, shows, span};
 use air_kit::{Access, Requests};
 use block_tree::{Program, Tree, digest};
 use machine_cycles::Stop;
@@ -23,98 +23,74 @@ struct Row {
     asked: Asked,
 }
 
-static AND: Row = Row {
-    ops: &[Op::Push, Op::Push, Op::U32And],
-    numbers: &[2147483648, 4294967295],
-    cells: &[
-        (3, 30, 4294967295),
-        (3, 31, 2147483648),
-        (4, 30, 2147483648),
-    ],
-    asked: Asked {
-        bits: &[(false, 4294967295, 2147483648)],
-        accesses: &[],
-        ranges: &[1023],
-        calls: 0,
-    },
+macro_rules! row {
+    (
+        [$($op:ident)*] [$($number:literal)*] cells { $($cell:tt)* }
+        bits [$(($xor:literal $a:literal $b:literal))*] accesses [$(($kind:literal $addr:literal $clk:literal $first:literal))*]
+        ranges [$($range:literal)*] calls $calls:literal
+    ) => {
+        Row {
+            ops: &[$(Op::$op),*],
+            numbers: &[$($number),*],
+            cells: &cells! { $($cell)* },
+            asked: Asked {
+                bits: &[$(($xor, $a, $b)),*],
+                accesses: &[$(($kind, $addr, $clk, $first)),*],
+                ranges: &[$($range),*],
+                calls: $calls,
+            },
+        }
+    };
+}
+
+static AND: Row = row! {
+    [Push Push U32And] [2147483648 4294967295]
+    cells {
+        3: 30=4294967295 31=2147483648;
+        4: 30=2147483648;
+    }
+    bits [(false 4294967295 2147483648)] accesses [] ranges [1023] calls 0
 };
 
-static XOR: Row = Row {
-    ops: &[Op::Push, Op::Push, Op::U32Xor],
-    numbers: &[2147483648, 2147483649],
-    cells: &[(3, 30, 2147483649), (4, 30, 1)],
-    asked: Asked {
-        bits: &[(true, 2147483649, 2147483648)],
-        accesses: &[],
-        ranges: &[1023],
-        calls: 0,
-    },
+static XOR: Row = row! {
+    [Push Push U32Xor] [2147483648 2147483649]
+    cells {
+        3: 30=2147483649;
+        4: 30=1;
+    }
+    bits [(true 2147483649 2147483648)] accesses [] ranges [1023] calls 0
 };
 
 // The greatest product and sum: the high word is 2^32 - 1, and the low one 0.
-static PRODUCT: Row = Row {
-    ops: &[Op::Push, Op::Push, Op::Push, Op::U32MAdd],
-    numbers: &[4294967295, 4294967295, 4294967295],
-    cells: &[
-        (4, 51, 0),
-        (4, 55, 65535),
-        (4, 61, 0),
-        (4, 64, 65535),
-        (5, 30, 4294967295),
-        (5, 31, 0),
-    ],
-    asked: Asked {
-        bits: &[],
-        accesses: &[],
-        ranges: &[
-            1023, 65535, 65535, 65535, 65535, 65535, 65535, 0, 0, 65535, 65535,
-        ],
-        calls: 0,
-    },
+static PRODUCT: Row = row! {
+    [Push Push Push U32MAdd] [4294967295 4294967295 4294967295]
+    cells {
+        4: 51=0 55=65535 61=0 64=65535;
+        5: 30=4294967295 31=0;
+    }
+    bits [] accesses [] ranges [1023 65535 65535 65535 65535 65535 65535 0 0 65535 65535] calls 0
 };
 
-static ADDRESS: Row = Row {
-    ops: &[Op::Push, Op::Push, Op::MStore],
-    numbers: &[7, 4294967295],
-    cells: &[(3, 30, 4294967295), (3, 31, 7), (4, 30, 7)],
-    asked: Asked {
-        bits: &[],
-        accesses: &[(2, 4294967295, 3, 7)],
-        ranges: &[1023],
-        calls: 0,
-    },
+static ADDRESS: Row = row! {
+    [Push Push MStore] [7 4294967295]
+    cells {
+        3: 30=4294967295 31=7;
+        4: 30=7;
+    }
+    bits [] accesses [(2 4294967295 3 7)] ranges [1023] calls 0
 };
 
 // A procedure of the kernel with four locals, which stores 9 at the frame pointer: it is 2^31 where the procedure starts.
-static LOCALS: Row = Row {
-    ops: &[
-        Op::Push,
-        Op::FmpUpdate,
-        Op::Push,
-        Op::Push,
-        Op::FmpAdd,
-        Op::MStore,
-        Op::Drop,
-    ],
-    numbers: &[4, 9, 0],
-    cells: &[
-        (0, 1, 1073741824),
-        (1, 1, 2147483648),
-        (1, 3, 1),
-        (4, 1, 2147483652),
-        (7, 30, 2147483652),
-        (7, 31, 9),
-        (7, 46, 18),
-        (7, 47, 5),
-        (11, 1, 1073741824),
-        (11, 3, 0),
-    ],
-    asked: Asked {
-        bits: &[],
-        accesses: &[(2, 2147483652, 7, 9)],
-        ranges: &[1023, 1022],
-        calls: 1,
-    },
+static LOCALS: Row = row! {
+    [Push FmpUpdate Push Push FmpAdd MStore Drop] [4 9 0]
+    cells {
+        0: 1=1073741824;
+        1: 1=2147483648 3=1;
+        4: 1=2147483652;
+        7: 30=2147483652 31=9 46=18 47=5;
+        11: 1=1073741824 3=0;
+    }
+    bits [] accesses [(2 2147483652 7 9)] ranges [1023 1022] calls 1
 };
 
 fn ask_bits(requests: &Requests, asked: &[(bool, u32, u32)]) -> bool {

@@ -148,36 +148,31 @@ fn case_filled(alloc: Global, case: Case) -> Result<(Table<65>, Requests), Stop>
 /// A row, a column and the cell there.
 pub type Cell = (usize, usize, u64);
 
-static EMPTY: [Cell; 12] = [
-    (0, 8, 0),
-    (0, 9, 1),
-    (0, 50, 0),
-    (1, 0, 1),
-    (1, 8, 1),
-    (1, 24, 1),
-    (1, 49, 1),
-    (2, 16, 0),
-    (2, 21, 1),
-    (3, 0, 3),
-    (3, 8, 0),
-    (3, 46, 16),
-];
+// A row of a table is a line: its number, and the columns and values of some of its cells.
+macro_rules! cells {
+    ($($row:literal: $($column:literal = $value:literal)*;)*) => {
+        [$($(($row, $column, $value)),*),*]
+    };
+}
+
+pub(crate) use cells;
+
+static EMPTY: [Cell; 12] = cells! {
+    0: 8=0 9=1 50=0;
+    1: 0=1 8=1 24=1 49=1;
+    2: 16=0 21=1;
+    3: 0=3 8=0 46=16;
+};
 
 // A span that pushes: its address and the place in the group, keys, and what is left of the group.
-static PUSHED: [Cell; 12] = [
-    (0, 27, 0),
-    (0, 28, 1),
-    (1, 25, 3),
-    (2, 25, 2),
-    (2, 26, 1),
-    (3, 46, 18),
-    (3, 47, 2),
-    (4, 47, 1),
-    (5, 30, 7),
-    (5, 31, 5),
-    (5, 47, 4),
-    (5, 16, 0),
-];
+static PUSHED: [Cell; 12] = cells! {
+    0: 27=0 28=1;
+    1: 25=3;
+    2: 25=2 26=1;
+    3: 46=18 47=2;
+    4: 47=1;
+    5: 30=7 31=5 47=4 16=0;
+};
 
 /// Whether these cells stand in a table.
 pub fn shows(table: &Table<65>, cells: &[Cell]) -> bool {
@@ -190,52 +185,31 @@ pub fn shows(table: &Table<65>, cells: &[Cell]) -> bool {
 
 // A loop whose body runs twice: the turn behind the first one, the blocks that are open, their
 // addresses, and what END says of the block.
-static REPEATED: [Cell; 14] = [
-    (0, 51, 1),
-    (0, 50, 0),
-    (1, 8, 1),
-    (2, 8, 9),
-    (2, 49, 9),
-    (2, 50, 2),
-    (3, 21, 1),
-    (4, 8, 1),
-    (4, 49, 0),
-    (6, 8, 17),
-    (6, 51, 0),
-    (8, 20, 1),
-    (8, 50, 1),
-    (9, 8, 0),
-];
+static REPEATED: [Cell; 14] = cells! {
+    0: 51=1 50=0;
+    1: 8=1;
+    2: 8=9 49=9 50=2;
+    3: 21=1;
+    4: 8=1 49=0;
+    6: 8=17 51=0;
+    8: 20=1 50=1;
+    9: 8=0;
+};
 
 // A dynamic block at address 25 and the span that it runs at 33: its bits spell 80, its hash is zeros,
 // and its END says nothing of the block.
-static CHOSEN: [Cell; 14] = [
-    (8, 8, 9),
-    (8, 13, 1),
-    (8, 15, 1),
-    (8, 16, 0),
-    (8, 23, 0),
-    (8, 24, 0),
-    (8, 50, 2),
-    (9, 8, 25),
-    (9, 50, 3),
-    (10, 8, 33),
-    (10, 49, 33),
-    (11, 21, 1),
-    (12, 8, 25),
-    (12, 21, 0),
-];
+static CHOSEN: [Cell; 14] = cells! {
+    8: 8=9 13=1 15=1 16=0 23=0 24=0 50=2;
+    9: 8=25 50=3;
+    10: 8=33 49=33;
+    11: 21=1;
+    12: 8=25 21=0;
+};
 
 // A subtraction of 196610 from 65541: the limbs of both and of what is left.
-static SUBTRACTED: [Cell; 7] = [
-    (3, 55, 2),
-    (3, 56, 3),
-    (3, 57, 5),
-    (3, 58, 1),
-    (3, 59, 3),
-    (3, 60, 65534),
-    (3, 61, 0),
-];
+static SUBTRACTED: [Cell; 7] = cells! {
+    3: 55=2 56=3 57=5 58=1 59=3 60=65534 61=0;
+};
 
 fn fills_no_operation(table: &Table<65>, requests: &Requests) -> bool {
     let asked = requests.perms.len() == 1 && requests.ranges.as_slice() == [1023].as_slice();

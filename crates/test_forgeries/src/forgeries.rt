@@ -33,67 +33,43 @@ struct Forgery {
     printed: &'static str,
 }
 
-static FORGERIES: [Forgery; 7] = [
+// The statement of `begin end`, but for an output.
+const OTHER_OUTPUT: &str =
+    r#"{"digest":"0000000000000000000000000000000000000000000000000000000000000000","inputs":[],"kernel":[],"outputs":[1,0,0,0,0,0,0,0,0,0,0,0,0,0,0,0]}"#;
+
+// The same, but for the digest.
+const OTHER_DIGEST: &str =
+    r#"{"digest":"0000000000000001000000000000000000000000000000000000000000000000","inputs":[],"kernel":[],"outputs":[0,0,0,0,0,0,0,0,0,0,0,0,0,0,0,0]}"#;
+
+// A forgery is a line: the program, the changes and what is printed.
+macro_rules! forgeries {
+    ($($source:literal [$($change:ident $(($($of:tt)*))?),*] => $printed:literal;)*) => {
+        [$(Forgery {
+            source: $source,
+            changes: &[$(Change::$change $(($($of)*))?),*],
+            printed: $printed,
+        }),*]
+    };
+}
+
+static FORGERIES: [Forgery; 7] = forgeries! {
     // The key of the second cell that is left is not that of the cell's push.
-    Forgery {
-        source: "begin push.2 push.3 add push.7 end",
-        changes: &[Change::Left(1, 0, 2)],
-        printed: "refused bus overflow tuple 1 0 0 asked 0 given 1\n",
-    },
+    "begin push.2 push.3 add push.7 end" [Left(1, 0, 2)] => "refused bus overflow tuple 1 0 0 asked 0 given 1\n";
     // A batch of two NEGs is left behind the first.
-    Forgery {
-        source: "begin neg end",
-        changes: &[
-            Change::Main(0, 16, 258),
-            Change::Main(1, 16, 258),
-            Change::Main(1, 54, 0),
-        ],
-        printed: "refused main row 1 constraint 107 value 256\n",
-    },
+    "begin neg end" [Main(0, 16, 258), Main(1, 16, 258), Main(1, 54, 0)] => "refused main row 1 constraint 107 value 256\n";
     // Another output is claimed.
-    Forgery {
-        source: "begin end",
-        changes: &[Change::Statement(
-            r#"{"digest":"0000000000000000000000000000000000000000000000000000000000000000","inputs":[],"kernel":[],"outputs":[1,0,0,0,0,0,0,0,0,0,0,0,0,0,0,0]}"#,
-        )],
-        printed: "refused main row 3 constraint 44 value 18446744069414584320\n",
-    },
+    "begin end" [Statement(OTHER_OUTPUT)] => "refused main row 3 constraint 44 value 18446744069414584320\n";
     // Another program is claimed.
-    Forgery {
-        source: "begin end",
-        changes: &[Change::Statement(
-            r#"{"digest":"0000000000000001000000000000000000000000000000000000000000000000","inputs":[],"kernel":[],"outputs":[0,0,0,0,0,0,0,0,0,0,0,0,0,0,0,0]}"#,
-        )],
-        printed: "refused bus children tuple 0 0 0 0 0 0 asked 1 given 0\n",
-    },
+    "begin end" [Statement(OTHER_DIGEST)] => "refused bus children tuple 0 0 0 0 0 0 asked 1 given 0\n";
     // The output of a permutation is not what its rounds come to.
-    Forgery {
-        source: "begin end",
-        changes: &[Change::Hasher(7, 7, 1)],
-        printed: "refused hasher row 6 constraint 22 value 1\n",
-    },
+    "begin end" [Hasher(7, 7, 1)] => "refused hasher row 6 constraint 22 value 1\n";
     // A value of the range table is counted that nothing asks for.
-    Forgery {
-        source: "begin end",
-        changes: &[Change::Range(1, 0, 1)],
-        printed: "refused bus range tuple 729 asked 0 given 1\n",
-    },
+    "begin end" [Range(1, 0, 1)] => "refused bus range tuple 729 asked 0 given 1\n";
     // Behind a call the caller's cells below the sixteenth are gone.
-    Forgery {
-        source: "proc.f push.1 add end begin push.9 call.f end",
-        changes: &[
-            Change::Main(11, 46, 16),
-            Change::Main(11, 47, 0),
-            Change::Main(11, 48, 0),
-            Change::Main(12, 46, 16),
-            Change::Main(12, 47, 0),
-            Change::Main(12, 48, 0),
-            Change::NoneLeft,
-            Change::OneOutputLess,
-        ],
-        printed: "refused bus blocks tuple 17 1 3 0 1073741824 0 16 0 0 0 0 0 asked 1 given 0\n",
-    },
-];
+    "proc.f push.1 add end begin push.9 call.f end" [
+        Main(11, 46, 16), Main(11, 47, 0), Main(11, 48, 0), Main(12, 46, 16), Main(12, 47, 0), Main(12, 48, 0), NoneLeft, OneOutputLess
+    ] => "refused bus blocks tuple 17 1 3 0 1073741824 0 16 0 0 0 0 0 asked 1 given 0\n";
+};
 
 // Whether there was what is changed; a statement is no part of the trace.
 fn change_trace(alloc: Global, trace: &mut Trace, change: &Change) -> bool {

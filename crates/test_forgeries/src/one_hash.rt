@@ -33,54 +33,28 @@ struct MainRow {
     others: &'static [(usize, u64)],
 }
 
+macro_rules! rows {
+    ($($address:literal $code:tt [$($column:literal = $cell:literal)*];)*) => {
+        [$(MainRow {
+            address: $address,
+            code: $code,
+            others: &[$(($column, $cell)),*],
+        }),*]
+    };
+}
+
 // JOIN, twice SPAN, NOOP and END, the END of the JOIN without its digest, and HALT.
-static MAIN: [MainRow; 9] = [
-    MainRow {
-        address: 0,
-        code: JOIN,
-        others: &[],
-    },
-    MainRow {
-        address: 1,
-        code: SPAN,
-        others: &[(50, 1)],
-    },
-    MainRow {
-        address: 9,
-        code: 0,
-        others: &[(24, 1), (49, 9), (50, 2)],
-    },
-    MainRow {
-        address: 9,
-        code: END,
-        others: &[(21, 1), (49, 9), (50, 2)],
-    },
-    MainRow {
-        address: 1,
-        code: SPAN,
-        others: &[(50, 1)],
-    },
-    MainRow {
-        address: 9,
-        code: 0,
-        others: &[(24, 1), (49, 9), (50, 2)],
-    },
-    MainRow {
-        address: 9,
-        code: END,
-        others: &[(21, 1), (49, 9), (50, 2)],
-    },
-    MainRow {
-        address: 1,
-        code: END,
-        others: &[(50, 1)],
-    },
-    MainRow {
-        address: 0,
-        code: HALT,
-        others: &[],
-    },
-];
+static MAIN: [MainRow; 9] = rows! {
+    0 JOIN [];
+    1 SPAN [50=1];
+    9 0 [24=1 49=9 50=2];
+    9 END [21=1 49=9 50=2];
+    1 SPAN [50=1];
+    9 0 [24=1 49=9 50=2];
+    9 END [21=1 49=9 50=2];
+    1 END [50=1];
+    0 HALT [];
+};
 
 // The states of a permutation: the one before it, and that behind each round.
 fn states_from(first: [Felt; 12]) -> [[Felt; 12]; 8] {

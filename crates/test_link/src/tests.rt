@@ -7,7 +7,7 @@ mod trees;
 
 use block_tree::Program;
 use masm_lex::MAX_SOURCE;
-use masm_link::{AsmError, assemble};
+use masm_link::{AsmCause, AsmError, assemble};
 use rpo_hash::Params;
 use std::alloc::{AllocError, Global};
 use vm_field::Felt;
@@ -16,6 +16,32 @@ const NO_CONSTANTS: Params = Params {
     first: [[Felt::ZERO; 12]; 7],
     second: [[Felt::ZERO; 12]; 7],
 };
+
+// A source is a line, with the column on its first line and the cause by which it is refused.
+macro_rules! refused {
+    ($($source:literal $column:literal $cause:ident;)*) => {
+        [$(($source, $column, masm_link::AsmCause::$cause)),*]
+    };
+}
+
+macro_rules! pairs {
+    ($($left:literal => $right:literal;)*) => {
+        [$(($left, $right)),*]
+    };
+}
+
+pub(crate) use pairs;
+pub(crate) use refused;
+
+// The refusal of a program or of its kernel.
+fn bad(in_kernel: bool, line: u32, column: u32, cause: AsmCause) -> AsmError {
+    AsmError::Bad {
+        in_kernel,
+        line,
+        column,
+        cause,
+    }
+}
 
 // The program of a source, with a kernel or with none.
 fn assembled(alloc: Global, kernel: Option<&[u8]>, source: &[u8]) -> Result<Program, AsmError> {

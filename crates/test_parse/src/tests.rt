@@ -5,6 +5,13 @@ use std::alloc::{AllocError, Global};
 use std::process::Abort;
 use std::test::Fail;
 
+// A line is a source, the line and the column at which it is refused, and the cause.
+macro_rules! refused {
+    ($($source:literal $line:literal : $column:literal $cause:ident;)*) => {
+        [$(($source, $line, $column, Cause::$cause)),*]
+    };
+}
+
 // Programs that are read.
 static PROGRAMS: [&[u8]; 32] = [
     b"begin end",
@@ -42,144 +49,84 @@ static PROGRAMS: [&[u8]; 32] = [
 ];
 
 // Programs that are refused, each with the line, the column and the cause.
-static BAD_PROGRAMS: [(&[u8], u32, u32, Cause); 76] = [
-    (b"", 1, 1, Cause::Syntax),
-    (b"begin", 1, 6, Cause::Syntax),
-    (b"# only", 1, 7, Cause::Syntax),
-    (b"begin else end", 1, 7, Cause::Syntax),
-    (b"begin if.true else else end end", 1, 20, Cause::Syntax),
-    (
-        b"begin if.true while.true else end end end",
-        1,
-        26,
-        Cause::Syntax,
-    ),
-    (b"end", 1, 1, Cause::Syntax),
-    (b"begin end end", 1, 11, Cause::Syntax),
-    (b"begin end begin end", 1, 11, Cause::Syntax),
-    (b"begin begin end", 1, 7, Cause::Syntax),
-    (b"begin const.A=1 end", 1, 7, Cause::Syntax),
-    (b"proc.f const.A=1 end begin end", 1, 8, Cause::Syntax),
-    (b"export.f end begin end", 1, 1, Cause::Syntax),
-    (b"begin export.f end", 1, 7, Cause::Syntax),
-    (b"begin push end", 1, 7, Cause::Syntax),
-    (b"begin push. end", 1, 7, Cause::Syntax),
-    (b"begin push.1..2 end", 1, 7, Cause::Syntax),
-    (
-        b"begin push.1.2.3.4.5.6.7.8.9.10.11.12.13.14.15.16.17 end",
-        1,
-        7,
-        Cause::Syntax,
-    ),
-    (b"begin push.0Xf end", 1, 7, Cause::Syntax),
-    (b"begin push.0x end", 1, 7, Cause::Syntax),
-    (b"begin push.0x00000000000000001 end", 1, 7, Cause::Syntax),
-    (
-        b"begin push.18446744069414584321 end",
-        1,
-        7,
-        Cause::NumberRange,
-    ),
-    (
-        b"begin push.99999999999999999999 end",
-        1,
-        7,
-        Cause::NumberRange,
-    ),
-    (b"begin push.000000000000000000001 end", 1, 7, Cause::Syntax),
-    (
-        b"begin push.99999999999999999999.x end",
-        1,
-        7,
-        Cause::Syntax,
-    ),
-    (b"begin swap.0 end", 1, 7, Cause::NumberRange),
-    (b"begin movup.1 end", 1, 7, Cause::NumberRange),
-    (b"begin movup.16 end", 1, 7, Cause::NumberRange),
-    (b"begin adv_push.0 end", 1, 7, Cause::NumberRange),
-    (b"begin adv_push.17 end", 1, 7, Cause::NumberRange),
-    (b"begin u32assert.1 end", 1, 7, Cause::NumberRange),
-    (b"begin movup end", 1, 7, Cause::Syntax),
-    (b"begin movupw.1 end", 1, 7, Cause::NumberRange),
-    (b"const.N=3 begin dup.N end", 1, 17, Cause::Syntax),
-    (
-        b"const.N=0 begin repeat.N neg end end",
-        1,
-        17,
-        Cause::RepeatRange,
-    ),
-    (b"begin repeat.10001 neg end end", 1, 7, Cause::RepeatRange),
-    (
-        b"begin repeat.99999999999999999999 neg end end",
-        1,
-        7,
-        Cause::RepeatRange,
-    ),
-    (b"begin repeat end end", 1, 7, Cause::Syntax),
-    (b"begin exp end", 1, 7, Cause::Unsupported),
-    (b"begin exp. end", 1, 7, Cause::Syntax),
-    (
-        b"begin exp.18446744069414584321 end",
-        1,
-        7,
-        Cause::NumberRange,
-    ),
-    (
-        b"const.N=18446744069414584321 begin end",
-        1,
-        1,
-        Cause::NumberRange,
-    ),
-    (b"const.A=B begin end", 1, 1, Cause::Syntax),
-    (b"const.n=1 begin end", 1, 1, Cause::Syntax),
-    (b"begin loc_load.0 end", 1, 7, Cause::LocalsRange),
-    (
-        b"proc.f.2 locaddr.2 end begin end",
-        1,
-        10,
-        Cause::LocalsRange,
-    ),
-    (b"proc.f.65536 end begin end", 1, 1, Cause::LocalsRange),
-    (
-        b"begin u32checked_add.4294967296 end",
-        1,
-        7,
-        Cause::NumberRange,
-    ),
-    (b"begin u32checked_rotr end", 1, 7, Cause::Syntax),
-    (b"begin u32checked_shl.32 end", 1, 7, Cause::NumberRange),
-    (b"begin u32checked_and.1 end", 1, 7, Cause::Syntax),
-    (b"begin end emit.1", 1, 11, Cause::Unsupported),
-    (b"begin end frob", 1, 11, Cause::UnknownInstruction),
-    (b"begin .add end", 1, 7, Cause::UnknownInstruction),
-    (b"use.x", 1, 1, Cause::Unsupported),
-    (b"add.99999999999999999999 begin end", 1, 1, Cause::Syntax),
-    (b"loc_load.9", 1, 1, Cause::Syntax),
-    (b"begin if.false end end", 1, 7, Cause::Syntax),
-    (b"begin call.f.g end", 1, 7, Cause::Syntax),
-    (b"begin procref end", 1, 7, Cause::Syntax),
-    (b"begin procref.f.g end", 1, 7, Cause::Syntax),
-    (b"begin procref.F end", 1, 7, Cause::Syntax),
-    (b"begin procreff.f end", 1, 7, Cause::UnknownInstruction),
-    (b"begin dynexec.1 end", 1, 7, Cause::Syntax),
-    (b"dynexec begin end", 1, 1, Cause::Syntax),
-    (b"begin dyncall end", 1, 7, Cause::Unsupported),
-    (b"begin exec.F end", 1, 7, Cause::Syntax),
-    (b"begin ADD end", 1, 7, Cause::UnknownInstruction),
-    (b"begin mem_store.4294967296 end", 1, 7, Cause::NumberRange),
-    (b"exec.f begin end", 1, 1, Cause::Syntax),
-    (b"begin repeat.1 else end end", 1, 16, Cause::Syntax),
-    (b"begin repeat.0 end end", 1, 7, Cause::RepeatRange),
-    (b"begin if.true end else end", 1, 19, Cause::Syntax),
-    (b"begin push.N end const.N=1", 1, 7, Cause::Syntax),
-    (
-        b"proc.f.1 end proc.g loc_load.0 end begin end",
-        1,
-        21,
-        Cause::LocalsRange,
-    ),
-    (b"begin add\n", 2, 1, Cause::Syntax),
-];
+static BAD_PROGRAMS: [(&[u8], u32, u32, Cause); 76] = refused! {
+    b"" 1:1 Syntax;
+    b"begin" 1:6 Syntax;
+    b"# only" 1:7 Syntax;
+    b"begin else end" 1:7 Syntax;
+    b"begin if.true else else end end" 1:20 Syntax;
+    b"begin if.true while.true else end end end" 1:26 Syntax;
+    b"end" 1:1 Syntax;
+    b"begin end end" 1:11 Syntax;
+    b"begin end begin end" 1:11 Syntax;
+    b"begin begin end" 1:7 Syntax;
+    b"begin const.A=1 end" 1:7 Syntax;
+    b"proc.f const.A=1 end begin end" 1:8 Syntax;
+    b"export.f end begin end" 1:1 Syntax;
+    b"begin export.f end" 1:7 Syntax;
+    b"begin push end" 1:7 Syntax;
+    b"begin push. end" 1:7 Syntax;
+    b"begin push.1..2 end" 1:7 Syntax;
+    b"begin push.1.2.3.4.5.6.7.8.9.10.11.12.13.14.15.16.17 end" 1:7 Syntax;
+    b"begin push.0Xf end" 1:7 Syntax;
+    b"begin push.0x end" 1:7 Syntax;
+    b"begin push.0x00000000000000001 end" 1:7 Syntax;
+    b"begin push.18446744069414584321 end" 1:7 NumberRange;
+    b"begin push.99999999999999999999 end" 1:7 NumberRange;
+    b"begin push.000000000000000000001 end" 1:7 Syntax;
+    b"begin push.99999999999999999999.x end" 1:7 Syntax;
+    b"begin swap.0 end" 1:7 NumberRange;
+    b"begin movup.1 end" 1:7 NumberRange;
+    b"begin movup.16 end" 1:7 NumberRange;
+    b"begin adv_push.0 end" 1:7 NumberRange;
+    b"begin adv_push.17 end" 1:7 NumberRange;
+    b"begin u32assert.1 end" 1:7 NumberRange;
+    b"begin movup end" 1:7 Syntax;
+    b"begin movupw.1 end" 1:7 NumberRange;
+    b"const.N=3 begin dup.N end" 1:17 Syntax;
+    b"const.N=0 begin repeat.N neg end end" 1:17 RepeatRange;
+    b"begin repeat.10001 neg end end" 1:7 RepeatRange;
+    b"begin repeat.99999999999999999999 neg end end" 1:7 RepeatRange;
+    b"begin repeat end end" 1:7 Syntax;
+    b"begin exp end" 1:7 Unsupported;
+    b"begin exp. end" 1:7 Syntax;
+    b"begin exp.18446744069414584321 end" 1:7 NumberRange;
+    b"const.N=18446744069414584321 begin end" 1:1 NumberRange;
+    b"const.A=B begin end" 1:1 Syntax;
+    b"const.n=1 begin end" 1:1 Syntax;
+    b"begin loc_load.0 end" 1:7 LocalsRange;
+    b"proc.f.2 locaddr.2 end begin end" 1:10 LocalsRange;
+    b"proc.f.65536 end begin end" 1:1 LocalsRange;
+    b"begin u32checked_add.4294967296 end" 1:7 NumberRange;
+    b"begin u32checked_rotr end" 1:7 Syntax;
+    b"begin u32checked_shl.32 end" 1:7 NumberRange;
+    b"begin u32checked_and.1 end" 1:7 Syntax;
+    b"begin end emit.1" 1:11 Unsupported;
+    b"begin end frob" 1:11 UnknownInstruction;
+    b"begin .add end" 1:7 UnknownInstruction;
+    b"use.x" 1:1 Unsupported;
+    b"add.99999999999999999999 begin end" 1:1 Syntax;
+    b"loc_load.9" 1:1 Syntax;
+    b"begin if.false end end" 1:7 Syntax;
+    b"begin call.f.g end" 1:7 Syntax;
+    b"begin procref end" 1:7 Syntax;
+    b"begin procref.f.g end" 1:7 Syntax;
+    b"begin procref.F end" 1:7 Syntax;
+    b"begin procreff.f end" 1:7 UnknownInstruction;
+    b"begin dynexec.1 end" 1:7 Syntax;
+    b"dynexec begin end" 1:1 Syntax;
+    b"begin dyncall end" 1:7 Unsupported;
+    b"begin exec.F end" 1:7 Syntax;
+    b"begin ADD end" 1:7 UnknownInstruction;
+    b"begin mem_store.4294967296 end" 1:7 NumberRange;
+    b"exec.f begin end" 1:1 Syntax;
+    b"begin repeat.1 else end end" 1:16 Syntax;
+    b"begin repeat.0 end end" 1:7 RepeatRange;
+    b"begin if.true end else end" 1:19 Syntax;
+    b"begin push.N end const.N=1" 1:7 Syntax;
+    b"proc.f.1 end proc.g loc_load.0 end begin end" 1:21 LocalsRange;
+    b"begin add\n" 2:1 Syntax;
+};
 
 static KERNELS: [&[u8]; 5] = [
     b"",
@@ -189,19 +136,19 @@ static KERNELS: [&[u8]; 5] = [
     b"proc.f if.true end end",
 ];
 
-static BAD_KERNELS: [(&[u8], u32, u32, Cause); 11] = [
-    (b"begin end", 1, 1, Cause::KernelBody),
-    (b"proc.f call.f end", 1, 8, Cause::KernelBody),
-    (b"call", 1, 1, Cause::KernelBody),
-    (b"export.k syscall.x.y end", 1, 10, Cause::KernelBody),
-    (b"export.k", 1, 9, Cause::Syntax),
-    (b"const.A=1 export.a.A end", 1, 11, Cause::Syntax),
-    (b"call.", 1, 1, Cause::KernelBody),
-    (b"proc.f procref.g end", 1, 8, Cause::KernelBody),
-    (b"procref", 1, 1, Cause::KernelBody),
-    (b"proc.f dynexec end", 1, 8, Cause::KernelBody),
-    (b"dynexec.1", 1, 1, Cause::KernelBody),
-];
+static BAD_KERNELS: [(&[u8], u32, u32, Cause); 11] = refused! {
+    b"begin end" 1:1 KernelBody;
+    b"proc.f call.f end" 1:8 KernelBody;
+    b"call" 1:1 KernelBody;
+    b"export.k syscall.x.y end" 1:10 KernelBody;
+    b"export.k" 1:9 Syntax;
+    b"const.A=1 export.a.A end" 1:11 Syntax;
+    b"call." 1:1 KernelBody;
+    b"proc.f procref.g end" 1:8 KernelBody;
+    b"procref" 1:1 KernelBody;
+    b"proc.f dynexec end" 1:8 KernelBody;
+    b"dynexec.1" 1:1 KernelBody;
+};
 
 fn is_read(alloc: Global, source: &[u8], kernel: bool) -> bool {
     if source.len() > MAX_SOURCE {

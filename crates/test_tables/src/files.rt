@@ -62,136 +62,50 @@ struct Case {
     answer: Result<usize, FileError>,
 }
 
-const ZERO: [u8; 8] = [0; 8];
+// A case is a line: the length, the head, the last element where it is not 0, and how many rows the main table has, or what is wrong.
+macro_rules! cases {
+    ($($length:literal $head:ident $([$($byte:literal)*])? => $answer:ident $number:literal;)*) => {
+        [$(Case {
+            length: $length,
+            head: $head,
+            last: cases!(@last $($($byte)*)?),
+            answer: cases!(@answer $answer $number),
+        }),*]
+    };
+    (@last) => {
+        [0; 8]
+    };
+    (@last $($byte:literal)*) => {
+        [$($byte),*]
+    };
+    (@answer rows $rows:literal) => {
+        Ok($rows)
+    };
+    (@answer $cause:ident $offset:literal) => {
+        Err(FileError::Bad {
+            offset: $offset,
+            cause: FileCause::$cause,
+        })
+    };
+}
 
-static CASES: [Case; 15] = [
-    Case {
-        length: 3748,
-        head: HEAD,
-        last: ZERO,
-        answer: Ok(4),
-    },
-    Case {
-        length: 3747,
-        head: HEAD,
-        last: ZERO,
-        answer: Err(FileError::Bad {
-            offset: 3740,
-            cause: FileCause::Ended,
-        }),
-    },
-    Case {
-        length: 3748,
-        head: HEAD,
-        last: [1, 0, 0, 0, 255, 255, 255, 255],
-        answer: Err(FileError::Bad {
-            offset: 3740,
-            cause: FileCause::Element,
-        }),
-    },
-    Case {
-        length: 3749,
-        head: HEAD,
-        last: ZERO,
-        answer: Err(FileError::Bad {
-            offset: 3748,
-            cause: FileCause::Extra,
-        }),
-    },
-    Case {
-        length: 0,
-        head: HEAD,
-        last: ZERO,
-        answer: Err(FileError::Bad {
-            offset: 0,
-            cause: FileCause::Ended,
-        }),
-    },
-    Case {
-        length: 3748,
-        head: OLD_HEAD,
-        last: ZERO,
-        answer: Err(FileError::Bad {
-            offset: 4,
-            cause: FileCause::Version,
-        }),
-    },
-    Case {
-        length: 5620,
-        head: LONG_HEAD,
-        last: ZERO,
-        answer: Ok(4),
-    },
-    Case {
-        length: 3748,
-        head: PART_HEAD,
-        last: ZERO,
-        answer: Err(FileError::Bad {
-            offset: 20,
-            cause: FileCause::Count,
-        }),
-    },
-    Case {
-        length: 3748,
-        head: FULL_HEAD,
-        last: ZERO,
-        answer: Err(FileError::Bad {
-            offset: 24,
-            cause: FileCause::Count,
-        }),
-    },
-    Case {
-        length: 3748,
-        head: FIRST_HEAD,
-        last: ZERO,
-        answer: Ok(4),
-    },
-    Case {
-        length: 3748,
-        head: NEXT_HEAD,
-        last: ZERO,
-        answer: Err(FileError::Bad {
-            offset: 4,
-            cause: FileCause::Version,
-        }),
-    },
-    Case {
-        length: 3748,
-        head: FIRST_MOST_HEAD,
-        last: ZERO,
-        answer: Err(FileError::Bad {
-            offset: 3748,
-            cause: FileCause::Ended,
-        }),
-    },
-    Case {
-        length: 3748,
-        head: FIRST_FULL_HEAD,
-        last: ZERO,
-        answer: Err(FileError::Bad {
-            offset: 32,
-            cause: FileCause::Count,
-        }),
-    },
-    Case {
-        length: 3748,
-        head: LEFT_HEAD,
-        last: ZERO,
-        answer: Err(FileError::Bad {
-            offset: 3748,
-            cause: FileCause::Ended,
-        }),
-    },
-    Case {
-        length: 3748,
-        head: FULL_LEFT_HEAD,
-        last: ZERO,
-        answer: Err(FileError::Bad {
-            offset: 32,
-            cause: FileCause::Count,
-        }),
-    },
-];
+static CASES: [Case; 15] = cases! {
+    3748 HEAD => rows 4;
+    3747 HEAD => Ended 3740;
+    3748 HEAD [1 0 0 0 255 255 255 255] => Element 3740;
+    3749 HEAD => Extra 3748;
+    0 HEAD => Ended 0;
+    3748 OLD_HEAD => Version 4;
+    5620 LONG_HEAD => rows 4;
+    3748 PART_HEAD => Count 20;
+    3748 FULL_HEAD => Count 24;
+    3748 FIRST_HEAD => rows 4;
+    3748 NEXT_HEAD => Version 4;
+    3748 FIRST_MOST_HEAD => Ended 3748;
+    3748 FIRST_FULL_HEAD => Count 32;
+    3748 LEFT_HEAD => Ended 3748;
+    3748 FULL_LEFT_HEAD => Count 32;
+};
 
 fn byte_of(case: &Case, i: usize) -> u8 {
     if i < case.head.len() {

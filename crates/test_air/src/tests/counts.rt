@@ -11,44 +11,26 @@ struct Case {
     may_not: &'static [usize],
 }
 
+macro_rules! cases {
+    ($($table:ident [$($may:literal)*] [$($may_not:literal)*];)*) => {
+        [$(Case {
+            table: TableName::$table,
+            may: &[$($may),*],
+            may_not: &[$($may_not),*],
+        }),*]
+    };
+}
+
 // The least and the most rows of each table, one more, and ends inside of an operation.
-static CASES: [Case; 7] = [
-    Case {
-        table: TableName::Main,
-        may: &[1, 2, 524288],
-        may_not: &[0, 524289],
-    },
-    Case {
-        table: TableName::Range,
-        may: &[1, 2, 131072],
-        may_not: &[0, 131073],
-    },
-    Case {
-        table: TableName::Hasher,
-        may: &[0, 8, 4194304],
-        may_not: &[1, 7, 9, 4194303, 4194312],
-    },
-    Case {
-        table: TableName::Bitwise,
-        may: &[0, 8, 4194304],
-        may_not: &[1, 7, 9, 4194303, 4194312],
-    },
-    Case {
-        table: TableName::Memory,
-        may: &[0, 1, 524288],
-        may_not: &[524289],
-    },
-    Case {
-        table: TableName::Kernel,
-        may: &[0, 1, 255],
-        may_not: &[256],
-    },
-    Case {
-        table: TableName::Left,
-        may: &[0, 1, 524288, 1048576],
-        may_not: &[1048577],
-    },
-];
+static CASES: [Case; 7] = cases! {
+    Main [1 2 524288] [0 524289];
+    Range [1 2 131072] [0 131073];
+    Hasher [0 8 4194304] [1 7 9 4194303 4194312];
+    Bitwise [0 8 4194304] [1 7 9 4194303 4194312];
+    Memory [0 1 524288] [524289];
+    Kernel [0 1 255] [256];
+    Left [0 1 524288 1048576] [1048577];
+};
 
 fn answers_all(cases: &[Case]) -> bool {
     for case in cases {

@@ -16,57 +16,29 @@ struct Change {
     value: u64,
 }
 
+// A line is the cell's row and column and the element, and the row, the number and the value of the fault.
+macro_rules! changes {
+    ($($row:literal $column:literal $element:literal => $seen_in:literal $number:literal $value:literal;)*) => {
+        [$(Change {
+            row: $row,
+            column: $column,
+            element: $element,
+            seen_in: $seen_in,
+            number: $number,
+            value: $value,
+        }),*]
+    };
+}
+
 // The clock, a cell of the stack in the first row and in the last one, the bit of spans, the group, and the count of groups.
-static CHANGES: [Change; 6] = [
-    Change {
-        row: 3,
-        column: 0,
-        element: 4,
-        seen_in: 2,
-        number: 10,
-        value: 1,
-    },
-    Change {
-        row: 0,
-        column: 30,
-        element: 5,
-        seen_in: 0,
-        number: 23,
-        value: 5,
-    },
-    Change {
-        row: 3,
-        column: 45,
-        element: 7,
-        seen_in: 3,
-        number: 59,
-        value: 7,
-    },
-    Change {
-        row: 2,
-        column: 24,
-        element: 1,
-        seen_in: 2,
-        number: 61,
-        value: 1,
-    },
-    Change {
-        row: 1,
-        column: 16,
-        element: 128,
-        seen_in: 0,
-        number: 104,
-        value: 128,
-    },
-    Change {
-        row: 1,
-        column: 25,
-        element: 1,
-        seen_in: 0,
-        number: 105,
-        value: 1,
-    },
-];
+static CHANGES: [Change; 6] = changes! {
+    3 0 4 => 2 10 1;
+    0 30 5 => 0 23 5;
+    3 45 7 => 3 59 7;
+    2 24 1 => 2 61 1;
+    1 16 128 => 0 104 128;
+    1 25 1 => 0 105 1;
+};
 
 // SPAN, NOOP, END and HALT: the code, the address of the open block, and whether a block is open.
 static ROWS: [(u8, u32, u32); 4] = [(73, 0, 0), (0, 1, 1), (76, 1, 1), (79, 0, 0)];

@@ -3,24 +3,21 @@ use std::alloc::Global;
 use std::test::Fail;
 use vm_field::{Felt, Memory};
 
+macro_rules! cells {
+    ($($column:literal = $cell:literal)*) => {
+        [$(($column, $cell)),*]
+    };
+}
+
 // U32ADD of 70,000 and 5: the limbs of both and of their sum.
-static ADDS: [(usize, u64); 12] = [
-    (10, 1),
-    (11, 1),
-    (12, 1),
-    (13, 1),
-    (30, 70000),
-    (31, 5),
-    (55, 4464),
-    (56, 1),
-    (57, 5),
-    (59, 4469),
-    (60, 1),
-    (46, 16),
-];
+static ADDS: [(usize, u64); 12] = cells! {
+    10=1 11=1 12=1 13=1 30=70000 31=5 55=4464 56=1 57=5 59=4469 60=1 46=16
+};
 
 // The row behind it.
-static ADDED: [(usize, u64); 2] = [(31, 70005), (46, 16)];
+static ADDED: [(usize, u64); 2] = cells! {
+    31=70005 46=16
+};
 
 // A cell of the row and one of the row behind it that are changed, and the fault: none where nothing is, an operand and then the
 // other one without its limbs, the sum without its limbs and then its carry, and limbs of a sum that is one too much.

@@ -3,27 +3,16 @@ use std::alloc::Global;
 use std::test::Fail;
 use vm_field::{Felt, Memory};
 
+macro_rules! cells {
+    ($($column:literal = $cell:literal)*) => {
+        [$(($column, $cell)),*]
+    };
+}
+
 // INCR on the cells 10, 11, .., 25 at depth 16, and the row behind it.
-static INCR: [(usize, u64); 18] = [
-    (11, 1),
-    (30, 10),
-    (31, 11),
-    (32, 12),
-    (33, 13),
-    (34, 14),
-    (35, 15),
-    (36, 16),
-    (37, 17),
-    (38, 18),
-    (39, 19),
-    (40, 20),
-    (41, 21),
-    (42, 22),
-    (43, 23),
-    (44, 24),
-    (45, 25),
-    (46, 16),
-];
+static INCR: [(usize, u64); 18] = cells! {
+    11=1 30=10 31=11 32=12 33=13 34=14 35=15 36=16 37=17 38=18 39=19 40=20 41=21 42=22 43=23 44=24 45=25 46=16
+};
 
 // A cell of the row and one of the next row that are changed, and the fault. With a bit of 2 the flag of NOOP is -1 and that of
 // INCR 2, so that cell 0 has the value 2 (11 - 11) - (11 - 10).

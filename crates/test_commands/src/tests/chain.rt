@@ -1,10 +1,7 @@
-use crate::tests::content::Content;
-use crate::tests::row::{Row, all_hold, all_hold_in_pieces, all_write, all_wrong};
+use crate::tests::calls::{all_hold, all_hold_in_pieces, all_write, all_wrong};
+use crate::tests::content::{Content, STATEMENT};
+use crate::tests::row::{Row, rows};
 use std::test::Fail;
-
-// The statement of `begin end`.
-const STATEMENT: &str =
-    r#"{"digest":"0000000000000000000000000000000000000000000000000000000000000000","inputs":[],"kernel":[],"outputs":[0,0,0,0,0,0,0,0,0,0,0,0,0,0,0,0]}"#;
 
 // That of a program of another digest.
 const OTHER_DIGEST: &str =
@@ -18,255 +15,52 @@ const EVIDENCE: &str =
     "link 1\nrun\ncycles 3\ntape\nspan 1\nbatch 0 0 0 0 0 0 0 0\nlink 2\nrun\ncycles 3\ntape\nspan 1\nbatch 0 0 0 0 0 0 0 0\n";
 
 // What no link leaves is what an empty stack is filled up to, so that the same files may follow themselves.
-static ACCEPTED: [Row; 2] = [
-    Row {
-        words: &["chain", "z", "l", "--evidence", "e"],
-        files: &[
-            ("z", Content::Lines(168, 0, "")),
-            ("l", Content::Text("t s\nt s\n")),
-            ("t", Content::Table(&[], 3748)),
-            ("s", Content::Text(STATEMENT)),
-        ],
-        failing_call: 0,
-        failing_write: 0,
-        number: 0,
-        printed: "accepted links 2\n",
-    },
-    Row {
-        words: &["chain", "--evidence=e", "z", "--", "l"],
-        files: &[
-            ("z", Content::Lines(168, 0, "")),
-            ("l", Content::Text("t s\nt s\n")),
-            ("t", Content::Table(&[], 3748)),
-            ("s", Content::Text(STATEMENT)),
-        ],
-        failing_call: 0,
-        failing_write: 0,
-        number: 0,
-        printed: "accepted links 2\n",
-    },
-];
+static ACCEPTED: [Row; 2] = rows! {
+    b"chain z l --evidence e" {z, l = "t s\nt s\n", t, s = STATEMENT} => 0 "accepted links 2\n";
+    b"chain --evidence=e z -- l" {z, l = "t s\nt s\n", t, s = STATEMENT} => 0 "accepted links 2\n";
+};
 
-static REFUSED: [Row; 6] = [
+static REFUSED: [Row; 6] = rows! {
     // a link that does not follow is told before its trace is looked at,
-    Row {
-        words: &["chain", "z", "l", "--evidence", "e"],
-        files: &[
-            ("z", Content::Lines(168, 0, "")),
-            ("l", Content::Text("t s\nt o\n")),
-            ("t", Content::Table(&[], 3748)),
-            ("s", Content::Text(STATEMENT)),
-            ("o", Content::Text(FROM_ONE)),
-        ],
-        failing_call: 0,
-        failing_write: 0,
-        number: 15,
-        printed: "broken link 1\n",
-    },
+    b"chain z l --evidence e" {z, l = "t s\nt o\n", t, s = STATEMENT, o = FROM_ONE} => 15 "broken link 1\n";
     // and one that is refused by its number
-    Row {
-        words: &["chain", "z", "l", "--evidence", "e"],
-        files: &[
-            ("z", Content::Lines(168, 0, "")),
-            ("l", Content::Text("t s\nt o\n")),
-            ("t", Content::Table(&[], 3748)),
-            ("s", Content::Text(STATEMENT)),
-            ("o", Content::Text(OTHER_DIGEST)),
-        ],
-        failing_call: 0,
-        failing_write: 0,
-        number: 1,
-        printed: "link 2 refused bus children tuple 0 0 0 0 0 0 asked 1 given 0\n",
-    },
-    Row {
-        words: &["chain", "z", "l", "--evidence", "e"],
-        files: &[
-            ("z", Content::Lines(168, 0, "")),
-            ("l", Content::Text("t o\nt s\n")),
-            ("t", Content::Table(&[], 3748)),
-            ("s", Content::Text(STATEMENT)),
-            ("o", Content::Text(OTHER_DIGEST)),
-        ],
-        failing_call: 0,
-        failing_write: 0,
-        number: 1,
-        printed: "link 1 refused bus children tuple 0 0 0 0 0 0 asked 1 given 0\n",
-    },
+    b"chain z l --evidence e" {z, l = "t s\nt o\n", t, s = STATEMENT, o = OTHER_DIGEST}
+        => 1 "link 2 refused bus children tuple 0 0 0 0 0 0 asked 1 given 0\n";
+    b"chain z l --evidence e" {z, l = "t o\nt s\n", t, s = STATEMENT, o = OTHER_DIGEST}
+        => 1 "link 1 refused bus children tuple 0 0 0 0 0 0 asked 1 given 0\n";
     // files are told by their names
-    Row {
-        words: &["chain", "z", "l", "--evidence", "e"],
-        files: &[
-            ("z", Content::Lines(168, 0, "")),
-            ("l", Content::Text("t s\nt o\n")),
-            ("t", Content::Table(&[], 3748)),
-            ("s", Content::Text(STATEMENT)),
-        ],
-        failing_call: 0,
-        failing_write: 0,
-        number: 6,
-        printed: "missing o\n",
-    },
-    Row {
-        words: &["chain", "z", "l", "--evidence", "e"],
-        files: &[
-            ("z", Content::Lines(168, 0, "")),
-            ("l", Content::Text("t s\nt o\n")),
-            ("t", Content::Table(&[], 3748)),
-            ("s", Content::Text(STATEMENT)),
-            ("o", Content::Text("{}")),
-        ],
-        failing_call: 0,
-        failing_write: 0,
-        number: 10,
-        printed: "malformed o Shape\n",
-    },
-    Row {
-        words: &["chain", "z", "l", "--evidence", "e"],
-        files: &[
-            ("z", Content::Lines(168, 0, "")),
-            ("l", Content::Text("t s\nt s\n")),
-            ("t", Content::Table(&[], 3748)),
-            ("s", Content::Text(STATEMENT)),
-        ],
-        failing_call: 5,
-        failing_write: 0,
-        number: 7,
-        printed: "read fault t\n",
-    },
-];
+    b"chain z l --evidence e" {z, l = "t s\nt o\n", t, s = STATEMENT} => 6 "missing o\n";
+    b"chain z l --evidence e" {z, l = "t s\nt o\n", t, s = STATEMENT, o = "{}"} => 10 "malformed o Shape\n";
+    b"chain z l --evidence e" {z, l = "t s\nt s\n", t, s = STATEMENT} => 7 "read fault t\n" call 5;
+};
 
 // Lists that are none, and the first line that is wrong with its first cause.
-static LISTS: [Row; 10] = [
-    Row {
-        words: &["chain", "z", "l", "--evidence", "e"],
-        files: &[("z", Content::Lines(168, 0, "")), ("l", Content::Text(""))],
-        failing_call: 0,
-        failing_write: 0,
-        number: 10,
-        printed: "malformed l line 1 Count\n",
-    },
-    Row {
-        words: &["chain", "z", "l", "--evidence", "e"],
-        files: &[
-            ("z", Content::Lines(168, 0, "")),
-            ("l", Content::Text("t s")),
-        ],
-        failing_call: 0,
-        failing_write: 0,
-        number: 10,
-        printed: "malformed l line 1 Line\n",
-    },
-    Row {
-        words: &["chain", "z", "l", "--evidence", "e"],
-        files: &[
-            ("z", Content::Lines(168, 0, "")),
-            ("l", Content::Text("t  s\n")),
-        ],
-        failing_call: 0,
-        failing_write: 0,
-        number: 10,
-        printed: "malformed l line 1 Line\n",
-    },
-    Row {
-        words: &["chain", "z", "l", "--evidence", "e"],
-        files: &[
-            ("z", Content::Lines(168, 0, "")),
-            ("l", Content::Text("t s\nt\n")),
-        ],
-        failing_call: 0,
-        failing_write: 0,
-        number: 10,
-        printed: "malformed l line 2 Line\n",
-    },
-    Row {
-        words: &["chain", "z", "l", "--evidence", "e"],
-        files: &[
-            ("z", Content::Lines(168, 0, "")),
-            ("l", Content::Text("t s u\n")),
-        ],
-        failing_call: 0,
-        failing_write: 0,
-        number: 10,
-        printed: "malformed l line 1 Line\n",
-    },
-    Row {
-        words: &["chain", "z", "l", "--evidence", "e"],
-        files: &[
-            ("z", Content::Lines(168, 0, "")),
-            ("l", Content::Text("-t s\n")),
-        ],
-        failing_call: 0,
-        failing_write: 0,
-        number: 10,
-        printed: "malformed l line 1 Line\n",
-    },
-    Row {
-        words: &["chain", "z", "l", "--evidence", "e"],
-        files: &[
-            ("z", Content::Lines(168, 0, "")),
-            ("l", Content::Text("e s\n")),
-        ],
-        failing_call: 0,
-        failing_write: 0,
-        number: 10,
-        printed: "malformed l line 1 Output\n",
-    },
-    Row {
-        words: &["chain", "z", "l", "--evidence", "e"],
-        files: &[
-            ("z", Content::Lines(168, 0, "")),
-            ("l", Content::Text("t s\nt e\n")),
-        ],
-        failing_call: 0,
-        failing_write: 0,
-        number: 10,
-        printed: "malformed l line 2 Output\n",
-    },
-    Row {
-        words: &["chain", "z", "l", "--evidence", "e"],
-        files: &[
-            ("z", Content::Lines(168, 0, "")),
-            ("l", Content::Lines(65, 0, "")),
-        ],
-        failing_call: 0,
-        failing_write: 0,
-        number: 10,
-        printed: "malformed l line 1 Line\n",
-    },
-    Row {
-        words: &["chain", "z", "l", "--evidence", "e"],
-        files: &[
-            ("z", Content::Lines(168, 0, "")),
-            ("l", Content::Lines(32769, 0, "")),
-        ],
-        failing_call: 0,
-        failing_write: 0,
-        number: 11,
-        printed: "too long l\n",
-    },
-];
+static LISTS: [Row; 10] = rows! {
+    b"chain z l --evidence e" {z, l = ""} => 10 "malformed l line 1 Count\n";
+    b"chain z l --evidence e" {z, l = "t s"} => 10 "malformed l line 1 Line\n";
+    b"chain z l --evidence e" {z, l = "t  s\n"} => 10 "malformed l line 1 Line\n";
+    b"chain z l --evidence e" {z, l = "t s\nt\n"} => 10 "malformed l line 2 Line\n";
+    b"chain z l --evidence e" {z, l = "t s u\n"} => 10 "malformed l line 1 Line\n";
+    b"chain z l --evidence e" {z, l = "-t s\n"} => 10 "malformed l line 1 Line\n";
+    b"chain z l --evidence e" {z, l = "e s\n"} => 10 "malformed l line 1 Output\n";
+    b"chain z l --evidence e" {z, l = "t s\nt e\n"} => 10 "malformed l line 2 Output\n";
+    b"chain z l --evidence e" {z, l: Lines(65, 0, "")} => 10 "malformed l line 1 Line\n";
+    b"chain z l --evidence e" {z, l: Lines(32769, 0, "")} => 11 "too long l\n";
+};
 
 // The list of 65 lines, of which the last one is told.
-static LONG: [Row; 1] = [Row {
-    words: &["chain", "z", "l", "--evidence", "e"],
-    files: &[
-        ("z", Content::Lines(168, 0, "")),
-        ("l", Content::Repeated(65, "t s\n")),
-    ],
-    failing_call: 0,
-    failing_write: 0,
-    number: 10,
-    printed: "malformed l line 65 Count\n",
-}];
+static LONG: [Row; 1] = rows! {
+    b"chain z l --evidence e" {z, l: Repeated(65, "t s\n")} => 10 "malformed l line 65 Count\n";
+};
 
-static WRONG: [&[&str]; 7] = [
-    &["chain", "z", "l"],
-    &["chain", "z", "l", "m", "--evidence", "e"],
-    &["chain", "z", "l", "--evidence", "l"],
-    &["chain", "z", "l", "--evidence", "z"],
-    &["chain", "z", "l", "--evidence", "e", "--pieces", "0"],
-    &["chain", "z", "l", "--evidence", "e", "--pieces", "65"],
-    &["chain", "z", "l", "--evidence", "e", "--kernel", "k"],
+static WRONG: [&[u8]; 7] = [
+    b"chain z l",
+    b"chain z l m --evidence e",
+    b"chain z l --evidence l",
+    b"chain z l --evidence z",
+    b"chain z l --evidence e --pieces 0",
+    b"chain z l --evidence e --pieces 65",
+    b"chain z l --evidence e --kernel k",
 ];
 
 #[test]

@@ -4,39 +4,23 @@ use vm_field::Memory;
 /// An element in the place of another one: its number in the file, from 0, and its value.
 pub type Other = (usize, u64);
 
+macro_rules! others {
+    ($($place:literal = $value:literal)*) => {
+        [$(($place, $value)),*]
+    };
+}
+
 // The elements that are not 0 of the four rows of the main table of `begin end`: SPAN, NOOP, END and HALT.
-static MAIN: [Other; 30] = [
-    (1, 1073741824),
-    (9, 1),
-    (12, 1),
-    (15, 1),
-    (46, 16),
-    (65, 1),
-    (66, 1073741824),
-    (73, 1),
-    (89, 1),
-    (111, 16),
-    (114, 1),
-    (115, 1),
-    (130, 2),
-    (131, 1073741824),
-    (138, 1),
-    (141, 1),
-    (142, 1),
-    (145, 1),
-    (151, 1),
-    (176, 16),
-    (179, 1),
-    (180, 1),
-    (195, 3),
-    (196, 1073741824),
-    (204, 1),
-    (205, 1),
-    (206, 1),
-    (207, 1),
-    (210, 1),
-    (241, 16),
-];
+static MAIN: [Other; 30] = others! {
+    1=1073741824 9=1 12=1 15=1 46=16
+    65=1 66=1073741824 73=1 89=1 111=16 114=1 115=1
+    130=2 131=1073741824 138=1 141=1 142=1 145=1 151=1 176=16 179=1 180=1
+    195=3 196=1073741824 204=1 205=1 206=1 207=1 210=1 241=16
+};
+
+/// The statement of `begin end`.
+pub const STATEMENT: &str =
+    r#"{"digest":"0000000000000000000000000000000000000000000000000000000000000000","inputs":[],"kernel":[],"outputs":[0,0,0,0,0,0,0,0,0,0,0,0,0,0,0,0]}"#;
 
 /// What a file holds.
 pub enum Content {
@@ -44,8 +28,8 @@ pub enum Content {
     Built([u64; 7], &'static [(usize, &'static [u64])]),
     /// The table file of `begin end` under constants that are all 0, with other elements in these places, as long as so many bytes.
     Table(&'static [Other], usize),
-    /// That file as the first version of the format has it.
-    FirstVersion,
+    /// That file as this version of the format has it.
+    Version(u64),
     /// Inputs of so many zeros, without advice.
     Inputs(usize),
     /// So many lines, each `0`, but the line of this number is this one.
@@ -58,12 +42,21 @@ pub enum Content {
     Bytes(&'static [u8]),
 }
 
+// Runs of elements, each behind the number of its first one.
+macro_rules! elements {
+    ($($start:literal [$($element:literal)*])*) => {
+        &[$(($start, &[$($element),*])),*]
+    };
+}
+
+pub(crate) use elements;
+
 /// The bytes of a file.
 pub fn bytes_of(alloc: Global, content: &Content) -> Result<Vec<u8>, Memory> {
     match content {
         Content::Built(rows, runs) => built(alloc, rows, runs),
         Content::Table(others, size) => table(alloc, 2, others, *size),
-        Content::FirstVersion => table(alloc, 1, &[], 3748),
+        Content::Version(version) => table(alloc, *version, &[], 3748),
         Content::Inputs(count) => inputs(alloc, *count),
         Content::Lines(count, place, other) => lines(alloc, *count, *place, other),
         Content::Repeated(count, text) => repeated(alloc, *count, text),

@@ -1,248 +1,34 @@
-use crate::tests::content::Content;
-use crate::tests::row::{Row, all_hold};
+use crate::tests::calls::all_hold;
+use crate::tests::row::{Row, rows};
 use std::test::Fail;
 
-static ROWS: [Row; 22] = [
+static ROWS: [Row; 22] = rows! {
     // The second constant of element 4 in the last round is 2^7.
-    Row {
-        words: &["hash", "z", "--", "n"],
-        files: &[
-            ("z", Content::Lines(168, 161, "128")),
-            ("n", Content::Lines(8, 0, "")),
-        ],
-        failing_call: 0,
-        failing_write: 0,
-        number: 0,
-        printed: "digest 0000000000000002000000000000000000000000000000000000000000000000\n",
-    },
-    Row {
-        words: &["hash", "z", "n"],
-        files: &[
-            ("z", Content::Lines(168, 161, "128")),
-            ("n", Content::Lines(8, 0, "")),
-        ],
-        failing_call: 0,
-        failing_write: 0,
-        number: 0,
-        printed: "digest 0000000000000002000000000000000000000000000000000000000000000000\n",
-    },
-    Row {
-        words: &["hash", "z", "n"],
-        files: &[
-            ("z", Content::Lines(168, 161, "128")),
-            ("n", Content::Lines(16, 0, "")),
-        ],
-        failing_call: 0,
-        failing_write: 0,
-        number: 0,
-        printed: "digest 0000000000000002000000000000000000000000000000000000000000000000\n",
-    },
-    Row {
-        words: &["hash", "z", "n"],
-        files: &[
-            ("z", Content::Lines(168, 0, "")),
-            ("n", Content::Lines(8, 0, "")),
-        ],
-        failing_call: 0,
-        failing_write: 0,
-        number: 0,
-        printed: "digest 0000000000000000000000000000000000000000000000000000000000000000\n",
-    },
-    Row {
-        words: &["hash", "z", "n"],
-        files: &[
-            ("z", Content::Lines(168, 0, "")),
-            ("n", Content::Lines(7, 0, "")),
-        ],
-        failing_call: 0,
-        failing_write: 0,
-        number: 10,
-        printed: "malformed n line 8 Count\n",
-    },
-    Row {
-        words: &["hash", "z", "n"],
-        files: &[
-            ("z", Content::Lines(168, 0, "")),
-            ("n", Content::Lines(0, 0, "")),
-        ],
-        failing_call: 0,
-        failing_write: 0,
-        number: 10,
-        printed: "malformed n line 1 Count\n",
-    },
-    Row {
-        words: &["hash", "z", "n"],
-        files: &[
-            ("z", Content::Lines(168, 0, "")),
-            ("n", Content::Lines(9, 3, "-1")),
-        ],
-        failing_call: 0,
-        failing_write: 0,
-        number: 10,
-        printed: "malformed n line 3 Number\n",
-    },
-    Row {
-        words: &["hash", "z", "n"],
-        files: &[
-            ("z", Content::Lines(167, 0, "")),
-            ("n", Content::Lines(7, 0, "")),
-        ],
-        failing_call: 0,
-        failing_write: 0,
-        number: 10,
-        printed: "malformed z line 168 Ended\n",
-    },
-    Row {
-        words: &["hash", "z", "n"],
-        files: &[
-            ("z", Content::Lines(168, 5, "01")),
-            ("n", Content::Lines(8, 0, "")),
-        ],
-        failing_call: 0,
-        failing_write: 0,
-        number: 10,
-        printed: "malformed z line 5 Number\n",
-    },
-    Row {
-        words: &["hash", "z", "n"],
-        files: &[
-            ("z", Content::Lines(169, 0, "")),
-            ("n", Content::Lines(8, 0, "")),
-        ],
-        failing_call: 0,
-        failing_write: 0,
-        number: 10,
-        printed: "malformed z line 169 Extra\n",
-    },
-    Row {
-        words: &["hash", "--", "z", "n"],
-        files: &[
-            ("z", Content::Lines(168, 0, "")),
-            ("n", Content::Lines(8, 0, "")),
-        ],
-        failing_call: 0,
-        failing_write: 0,
-        number: 0,
-        printed: "digest 0000000000000000000000000000000000000000000000000000000000000000\n",
-    },
-    Row {
-        words: &["hash", "z", "n", "--"],
-        files: &[
-            ("z", Content::Lines(168, 0, "")),
-            ("n", Content::Lines(8, 0, "")),
-        ],
-        failing_call: 0,
-        failing_write: 0,
-        number: 0,
-        printed: "digest 0000000000000000000000000000000000000000000000000000000000000000\n",
-    },
-    Row {
-        words: &["hash", "--", "z", "--", "n"],
-        files: &[
-            ("z", Content::Lines(168, 0, "")),
-            ("n", Content::Lines(8, 0, "")),
-        ],
-        failing_call: 0,
-        failing_write: 0,
-        number: 2,
-        printed: "usage\n",
-    },
-    Row {
-        words: &["hash", "z"],
-        files: &[
-            ("z", Content::Lines(168, 0, "")),
-            ("n", Content::Lines(8, 0, "")),
-        ],
-        failing_call: 0,
-        failing_write: 0,
-        number: 2,
-        printed: "usage\n",
-    },
-    Row {
-        words: &["hash", "z", "n", "--limit=3"],
-        files: &[
-            ("z", Content::Lines(168, 0, "")),
-            ("n", Content::Lines(8, 0, "")),
-        ],
-        failing_call: 0,
-        failing_write: 0,
-        number: 2,
-        printed: "usage\n",
-    },
-    Row {
-        words: &["hash", "z", "m"],
-        files: &[
-            ("z", Content::Lines(168, 0, "")),
-            ("n", Content::Lines(8, 0, "")),
-        ],
-        failing_call: 0,
-        failing_write: 0,
-        number: 6,
-        printed: "missing m\n",
-    },
-    Row {
-        words: &["hash", "y", "m"],
-        files: &[],
-        failing_call: 0,
-        failing_write: 0,
-        number: 6,
-        printed: "missing y\n",
-    },
-    Row {
-        words: &["hash", "z", "n"],
-        files: &[("z", Content::Lines(167, 0, ""))],
-        failing_call: 0,
-        failing_write: 0,
-        number: 10,
-        printed: "malformed z line 168 Ended\n",
-    },
-    Row {
-        words: &["hash", "z", "n"],
-        files: &[
-            ("z", Content::Lines(168, 0, "")),
-            ("n", Content::Lines(8, 0, "")),
-        ],
-        failing_call: 2,
-        failing_write: 0,
-        number: 7,
-        printed: "read fault n\n",
-    },
+    b"hash z -- n" {z: Lines(168, 161, "128"), n: Lines(8, 0, "")} => 0 "digest 0000000000000002000000000000000000000000000000000000000000000000\n";
+    b"hash z n" {z: Lines(168, 161, "128"), n: Lines(8, 0, "")} => 0 "digest 0000000000000002000000000000000000000000000000000000000000000000\n";
+    b"hash z n" {z: Lines(168, 161, "128"), n: Lines(16, 0, "")} => 0 "digest 0000000000000002000000000000000000000000000000000000000000000000\n";
+    b"hash z n" {z, n: Lines(8, 0, "")} => 0 "digest 0000000000000000000000000000000000000000000000000000000000000000\n";
+    b"hash z n" {z, n: Lines(7, 0, "")} => 10 "malformed n line 8 Count\n";
+    b"hash z n" {z, n: Lines(0, 0, "")} => 10 "malformed n line 1 Count\n";
+    b"hash z n" {z, n: Lines(9, 3, "-1")} => 10 "malformed n line 3 Number\n";
+    b"hash z n" {z: Lines(167, 0, ""), n: Lines(7, 0, "")} => 10 "malformed z line 168 Ended\n";
+    b"hash z n" {z: Lines(168, 5, "01"), n: Lines(8, 0, "")} => 10 "malformed z line 5 Number\n";
+    b"hash z n" {z: Lines(169, 0, ""), n: Lines(8, 0, "")} => 10 "malformed z line 169 Extra\n";
+    b"hash -- z n" {z, n: Lines(8, 0, "")} => 0 "digest 0000000000000000000000000000000000000000000000000000000000000000\n";
+    b"hash z n --" {z, n: Lines(8, 0, "")} => 0 "digest 0000000000000000000000000000000000000000000000000000000000000000\n";
+    b"hash -- z -- n" {z, n: Lines(8, 0, "")} => 2 "usage\n";
+    b"hash z" {z, n: Lines(8, 0, "")} => 2 "usage\n";
+    b"hash z n --limit=3" {z, n: Lines(8, 0, "")} => 2 "usage\n";
+    b"hash z m" {z, n: Lines(8, 0, "")} => 6 "missing m\n";
+    b"hash y m" {} => 6 "missing y\n";
+    b"hash z n" {z: Lines(167, 0, "")} => 10 "malformed z line 168 Ended\n";
+    b"hash z n" {z, n: Lines(8, 0, "")} => 7 "read fault n\n" call 2;
     // 4,096 bytes, and two more
-    Row {
-        words: &["hash", "z", "n"],
-        files: &[
-            ("z", Content::Lines(2048, 0, "")),
-            ("n", Content::Lines(8, 0, "")),
-        ],
-        failing_call: 0,
-        failing_write: 0,
-        number: 10,
-        printed: "malformed z line 169 Extra\n",
-    },
-    Row {
-        words: &["hash", "z", "n"],
-        files: &[
-            ("z", Content::Lines(2049, 0, "")),
-            ("n", Content::Lines(8, 0, "")),
-        ],
-        failing_call: 0,
-        failing_write: 0,
-        number: 11,
-        printed: "too long z\n",
-    },
+    b"hash z n" {z: Lines(2048, 0, ""), n: Lines(8, 0, "")} => 10 "malformed z line 169 Extra\n";
+    b"hash z n" {z: Lines(2049, 0, ""), n: Lines(8, 0, "")} => 11 "too long z\n";
     // 262,146 bytes
-    Row {
-        words: &["hash", "z", "n"],
-        files: &[
-            ("z", Content::Lines(168, 0, "")),
-            ("n", Content::Lines(131073, 0, "")),
-        ],
-        failing_call: 0,
-        failing_write: 0,
-        number: 11,
-        printed: "too long n\n",
-    },
-];
+    b"hash z n" {z, n: Lines(131073, 0, "")} => 11 "too long n\n";
+};
 
 #[test]
 fn numbers_are_hashed(rt: HostRuntime) -> Result<(), Fail> {

@@ -1,5 +1,6 @@
+use crate::tests::calls::{all_hold, all_write, all_wrong, answers, shelf_of};
 use crate::tests::content::Content;
-use crate::tests::row::{Row, all_hold, all_write, all_wrong, answers, shelf_of};
+use crate::tests::row::{CHECK, RUN, Row, row, rows};
 use std::alloc::Global;
 use std::test::Fail;
 use std::thread::Threads;
@@ -36,111 +37,33 @@ end
 // The inputs of three.
 const SQUARES: &str = r#"{"advice":[1,4,9],"stack":[]}"#;
 
-static ONE: [Row; 1] = [Row {
-    words: &["make", "z", "1", "--source", "m", "--inputs", "i"],
-    files: &[("z", Content::Lines(168, 0, ""))],
-    failing_call: 0,
-    failing_write: 0,
-    number: 0,
-    printed: "cycles 95\noutputs 0 0 0 0 0 0 0 0 0 0 0 0 0 0 0 0 0\naccepted\n",
-}];
-
-static TWO: Row = Row {
-    words: &["make", "--inputs=i", "z", "--source=m", "--", "2"],
-    files: &[("z", Content::Lines(168, 0, ""))],
-    failing_call: 0,
-    failing_write: 0,
-    number: 0,
-    printed: "cycles 174\noutputs 6 0 0 0 0 0 0 0 0 0 0 0 0 0 0 0 0\naccepted\n",
+static ONE: [Row; 1] = rows! {
+    b"make z 1 --source m --inputs i" {z} => 0 "cycles 95\noutputs 0 0 0 0 0 0 0 0 0 0 0 0 0 0 0 0 0\naccepted\n";
 };
 
-static THREE: [Row; 1] = [Row {
-    words: &["make", "z", "3", "--source", "m", "--inputs", "i"],
-    files: &[("z", Content::Lines(168, 0, ""))],
-    failing_call: 0,
-    failing_write: 0,
-    number: 0,
-    printed: "cycles 253\noutputs 8 0 0 0 0 0 0 0 0 0 0 0 0 0 0 0 0\naccepted\n",
-}];
+static TWO: Row = row! {
+    b"make --inputs=i z --source=m -- 2" {z} => 0 "cycles 174\noutputs 6 0 0 0 0 0 0 0 0 0 0 0 0 0 0 0 0\naccepted\n"
+};
+
+static THREE: [Row; 1] = rows! {
+    b"make z 3 --source m --inputs i" {z} => 0 "cycles 253\noutputs 8 0 0 0 0 0 0 0 0 0 0 0 0 0 0 0 0\naccepted\n";
+};
 
 // The same lines each time.
-static MANY: [Row; 2] = [
-    Row {
-        words: &["make", "z", "200", "--source", "m", "--inputs", "i"],
-        files: &[("z", Content::Lines(168, 0, ""))],
-        failing_call: 0,
-        failing_write: 0,
-        number: 0,
-        printed: "cycles 15816\noutputs 44512 0 0 0 0 0 0 0 0 0 0 0 0 0 0 0 0\naccepted\n",
-    },
-    Row {
-        words: &["make", "z", "200", "--source", "m", "--inputs", "i"],
-        files: &[("z", Content::Lines(168, 0, ""))],
-        failing_call: 0,
-        failing_write: 0,
-        number: 0,
-        printed: "cycles 15816\noutputs 44512 0 0 0 0 0 0 0 0 0 0 0 0 0 0 0 0\naccepted\n",
-    },
-];
+static MANY: [Row; 2] = rows! {
+    b"make z 200 --source m --inputs i" {z} => 0 "cycles 15816\noutputs 44512 0 0 0 0 0 0 0 0 0 0 0 0 0 0 0 0\naccepted\n";
+    b"make z 200 --source m --inputs i" {z} => 0 "cycles 15816\noutputs 44512 0 0 0 0 0 0 0 0 0 0 0 0 0 0 0 0\naccepted\n";
+};
 
 // A call or a print fails, or the parameters are not there: what stood under the names of the outputs stands, but for a write that
 // failed.
-static FAILED: [Row; 5] = [
-    Row {
-        words: &["make", "z", "1", "--source", "m", "--inputs", "i"],
-        files: &[("m", Content::Text("old")), ("i", Content::Text("old"))],
-        failing_call: 0,
-        failing_write: 0,
-        number: 6,
-        printed: "missing z\n",
-    },
-    Row {
-        words: &["make", "z", "1", "--source", "m", "--inputs", "i"],
-        files: &[
-            ("z", Content::Lines(167, 0, "")),
-            ("m", Content::Text("old")),
-            ("i", Content::Text("old")),
-        ],
-        failing_call: 0,
-        failing_write: 0,
-        number: 10,
-        printed: "malformed z line 168 Ended\n",
-    },
-    Row {
-        words: &["make", "z", "1", "--source", "m", "--inputs", "i"],
-        files: &[
-            ("z", Content::Lines(168, 0, "")),
-            ("i", Content::Text("old")),
-        ],
-        failing_call: 2,
-        failing_write: 0,
-        number: 8,
-        printed: "write fault m\n",
-    },
-    Row {
-        words: &["make", "z", "1", "--source", "m", "--inputs", "i"],
-        files: &[
-            ("z", Content::Lines(168, 0, "")),
-            ("m", Content::Text(ONE_TURN)),
-        ],
-        failing_call: 3,
-        failing_write: 0,
-        number: 8,
-        printed: "write fault i\n",
-    },
-    Row {
-        words: &["make", "z", "1", "--source", "m", "--inputs", "i"],
-        files: &[
-            ("z", Content::Lines(168, 0, "")),
-            ("m", Content::Text(ONE_TURN)),
-            ("i", Content::Text(r#"{"advice":[1],"stack":[]}"#)),
-        ],
-        failing_call: 0,
-        failing_write: 1,
-        number: 9,
-        printed: "cycles 95\noutputs 0 0 0 0 0 0 ",
-    },
-];
+static FAILED: [Row; 5] = rows! {
+    b"make z 1 --source m --inputs i" {m = "old", i = "old"} => 6 "missing z\n";
+    b"make z 1 --source m --inputs i" {z: Lines(167, 0, ""), m = "old", i = "old"} => 10 "malformed z line 168 Ended\n";
+    b"make z 1 --source m --inputs i" {z, i = "old"} => 8 "write fault m\n" call 2;
+    b"make z 1 --source m --inputs i" {z, m = ONE_TURN} => 8 "write fault i\n" call 3;
+    b"make z 1 --source m --inputs i" {z, m = ONE_TURN, i = r#"{"advice":[1],"stack":[]}"#} => 9 "cycles 95\noutputs 0 0 0 0 0 0 " write 1;
+};
 
 #[test]
 fn what_is_made_is_told(rt: HostRuntime) -> Result<(), Fail> {
@@ -159,22 +82,12 @@ fn what_fails_is_told(rt: HostRuntime) -> Result<(), Fail> {
 }
 
 // The run of what was made for two turns, and its check.
-static RUN: Row = Row {
-    words: &["run", "z", "m", "i", "--out", "t", "--statement", "u"],
-    files: &[],
-    failing_call: 0,
-    failing_write: 0,
-    number: 0,
-    printed: "cycles 174\noutputs 6 0 0 0 0 0 0 0 0 0 0 0 0 0 0 0 0\n",
+static RUN_AGAIN: Row = row! {
+    b"run z m i --out t --statement u" {} => 0 "cycles 174\noutputs 6 0 0 0 0 0 0 0 0 0 0 0 0 0 0 0 0\n"
 };
 
-static CHECK: Row = Row {
-    words: &["check", "z", "t", "u", "--evidence", "e"],
-    files: &[],
-    failing_call: 0,
-    failing_write: 0,
-    number: 0,
-    printed: "accepted run\n",
+static CHECKED: Row = row! {
+    CHECK {} => 0 "accepted run\n"
 };
 
 #[test]
@@ -195,8 +108,8 @@ fn make_run_and_check(
 ) -> Result<bool, Memory> {
     Ok(
         answers(rt, alloc, &TWO, shelf)?
-            && answers(rt, alloc, &RUN, shelf)?
-            && answers(rt, alloc, &CHECK, shelf)?,
+            && answers(rt, alloc, &RUN_AGAIN, shelf)?
+            && answers(rt, alloc, &CHECKED, shelf)?,
     )
 }
 
@@ -225,24 +138,20 @@ fn number_at(bytes: &[u8], place: usize, size: usize) -> u64 {
     number
 }
 
-static WRONG: [&'static [&'static str]; 13] = [
-    &["make", "z", "0", "--source", "m", "--inputs", "i"],
-    &["make", "z", "1001", "--source", "m", "--inputs", "i"],
-    &["make", "z", "01", "--source", "m", "--inputs", "i"],
-    &["make", "z", "one", "--source", "m", "--inputs", "i"],
-    &["make", "z", "1", "--source", "m", "--inputs", "m"],
-    &["make", "z", "1", "--source", "z", "--inputs", "i"],
-    &["make", "z", "1", "--source", "m", "--inputs", "z"],
-    &["make", "z", "1", "--source", "m"],
-    &["make", "z", "1", "--inputs", "i"],
-    &["make", "z", "--source", "m", "--inputs", "i"],
-    &["make", "z", "1", "2", "--source", "m", "--inputs", "i"],
-    &[
-        "make", "z", "1", "--source", "m", "--inputs", "i", "--limit", "5",
-    ],
-    &[
-        "make", "z", "1", "--source", "m", "--source", "n", "--inputs", "i",
-    ],
+static WRONG: [&[u8]; 13] = [
+    b"make z 0 --source m --inputs i",
+    b"make z 1001 --source m --inputs i",
+    b"make z 01 --source m --inputs i",
+    b"make z one --source m --inputs i",
+    b"make z 1 --source m --inputs m",
+    b"make z 1 --source z --inputs i",
+    b"make z 1 --source m --inputs z",
+    b"make z 1 --source m",
+    b"make z 1 --inputs i",
+    b"make z --source m --inputs i",
+    b"make z 1 2 --source m --inputs i",
+    b"make z 1 --source m --inputs i --limit 5",
+    b"make z 1 --source m --source n --inputs i",
 ];
 
 #[test]

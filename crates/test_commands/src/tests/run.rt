@@ -1,449 +1,64 @@
-use crate::tests::content::Content;
-use crate::tests::row::{
-    Change, Forgery, Row, all_accepted, all_forged, all_hold, all_stop, all_write, all_wrong,
-};
+use crate::tests::calls::{all_accepted, all_forged, all_hold, all_leave, all_write, all_wrong};
+use crate::tests::content::{Content, STATEMENT};
+use crate::tests::row::{CHECK, Forgery, RUN, Row, forgeries, rows};
 use std::test::Fail;
 
-// What is claimed of `begin end`.
-const STATEMENT: &str =
-    "{\"digest\":\"0000000000000000000000000000000000000000000000000000000000000000\",\"inputs\":[],\"kernel\":[],\"outputs\":[0,0,0,0,0,0,0,0,0,0,0,0,0,0,0,0]}";
-
-static RAN: [Row; 7] = [
-    Row {
-        words: &["run", "z", "s", "i", "--out", "t", "--statement", "u"],
-        files: &[
-            ("z", Content::Lines(168, 0, "")),
-            ("s", Content::Text("begin end")),
-            ("i", Content::Text(r#"{"advice":[],"stack":[]}"#)),
-        ],
-        failing_call: 0,
-        failing_write: 0,
-        number: 0,
-        printed: "cycles 3\noutputs 0 0 0 0 0 0 0 0 0 0 0 0 0 0 0 0\n",
-    },
-    Row {
-        words: &["run", "z", "s", "i", "--out", "t", "--statement", "u"],
-        files: &[
-            ("z", Content::Lines(168, 0, "")),
-            ("s", Content::Text("begin push.2 push.3 add push.7 end")),
-            ("i", Content::Text(r#"{"advice":[],"stack":[]}"#)),
-        ],
-        failing_call: 0,
-        failing_write: 0,
-        number: 0,
-        printed: "cycles 7\noutputs 7 5 0 0 0 0 0 0 0 0 0 0 0 0 0 0 0 0\n",
-    },
-    Row {
-        words: &["run", "z", "s", "i", "--out", "t", "--statement", "u"],
-        files: &[
-            ("z", Content::Lines(168, 0, "")),
-            ("s", Content::Text("begin push.0 end")),
-            ("i", Content::Text(r#"{"advice":[],"stack":[]}"#)),
-        ],
-        failing_call: 0,
-        failing_write: 0,
-        number: 0,
-        printed: "cycles 3\noutputs 0 0 0 0 0 0 0 0 0 0 0 0 0 0 0 0 0\n",
-    },
-    Row {
-        words: &["run", "z", "s", "i", "--out", "t", "--statement", "u"],
-        files: &[
-            ("z", Content::Lines(168, 0, "")),
-            ("s", Content::Text("begin repeat.8 neg end push.5 end")),
-            ("i", Content::Text(r#"{"advice":[],"stack":[]}"#)),
-        ],
-        failing_call: 0,
-        failing_write: 0,
-        number: 0,
-        printed: "cycles 13\noutputs 5 0 0 0 0 0 0 0 0 0 0 0 0 0 0 0 0\n",
-    },
-    Row {
-        words: &["run", "z", "s", "i", "--out", "t", "--statement", "u"],
-        files: &[
-            ("z", Content::Lines(168, 0, "")),
-            ("s", Content::Text("begin repeat.73 neg end end")),
-            ("i", Content::Text(r#"{"advice":[],"stack":[]}"#)),
-        ],
-        failing_call: 0,
-        failing_write: 0,
-        number: 0,
-        printed: "cycles 76\noutputs 0 0 0 0 0 0 0 0 0 0 0 0 0 0 0 0\n",
-    },
-    Row {
-        words: &["run", "z", "s", "i", "--out", "t", "--statement", "u"],
-        files: &[
-            ("z", Content::Lines(168, 0, "")),
-            ("s", Content::Text("begin add end")),
-            ("i", Content::Text(r#"{"stack":[2,3],"advice":[]}"#)),
-        ],
-        failing_call: 0,
-        failing_write: 0,
-        number: 0,
-        printed: "cycles 3\noutputs 5 0 0 0 0 0 0 0 0 0 0 0 0 0 0 0\n",
-    },
-    Row {
-        words: &[
-            "run",
-            "--limit",
-            "3",
-            "z",
-            "--out=t",
-            "s",
-            "--statement=u",
-            "--",
-            "i",
-        ],
-        files: &[
-            ("z", Content::Lines(168, 0, "")),
-            ("s", Content::Text("begin end")),
-            ("i", Content::Text(r#"{"advice":[],"stack":[]}"#)),
-        ],
-        failing_call: 0,
-        failing_write: 0,
-        number: 0,
-        printed: "cycles 3\noutputs 0 0 0 0 0 0 0 0 0 0 0 0 0 0 0 0\n",
-    },
-];
+static RAN: [Row; 7] = rows! {
+    RUN {z, s = "begin end", i} => 0 "cycles 3\noutputs 0 0 0 0 0 0 0 0 0 0 0 0 0 0 0 0\n";
+    RUN {z, s = "begin push.2 push.3 add push.7 end", i} => 0 "cycles 7\noutputs 7 5 0 0 0 0 0 0 0 0 0 0 0 0 0 0 0 0\n";
+    RUN {z, s = "begin push.0 end", i} => 0 "cycles 3\noutputs 0 0 0 0 0 0 0 0 0 0 0 0 0 0 0 0 0\n";
+    RUN {z, s = "begin repeat.8 neg end push.5 end", i} => 0 "cycles 13\noutputs 5 0 0 0 0 0 0 0 0 0 0 0 0 0 0 0 0\n";
+    RUN {z, s = "begin repeat.73 neg end end", i} => 0 "cycles 76\noutputs 0 0 0 0 0 0 0 0 0 0 0 0 0 0 0 0\n";
+    RUN {z, s = "begin add end", i = r#"{"stack":[2,3],"advice":[]}"#} => 0 "cycles 3\noutputs 5 0 0 0 0 0 0 0 0 0 0 0 0 0 0 0\n";
+    b"run --limit 3 z --out=t s --statement=u -- i" {z, s = "begin end", i} => 0 "cycles 3\noutputs 0 0 0 0 0 0 0 0 0 0 0 0 0 0 0 0\n";
+};
 
 // Each ends before a file is written.
-static STOPPED: [Row; 15] = [
-    Row {
-        words: &["run", "z", "s", "i", "--out", "t", "--statement", "u"],
-        files: &[
-            ("z", Content::Lines(168, 0, "")),
-            (
-                "s",
-                Content::Text("begin push.4294967296 push.1 u32wrapping_add end"),
-            ),
-            ("i", Content::Text(r#"{"advice":[],"stack":[]}"#)),
-        ],
-        failing_call: 0,
-        failing_write: 0,
-        number: 4,
-        printed: "trap 3 NotU32\n",
-    },
-    Row {
-        words: &["run", "z", "s", "i", "--out", "t", "--statement", "u"],
-        files: &[
-            ("z", Content::Lines(168, 0, "")),
-            ("s", Content::Text("proc.f push.1 end begin call.f end")),
-            ("i", Content::Text(r#"{"advice":[],"stack":[]}"#)),
-        ],
-        failing_call: 0,
-        failing_write: 0,
-        number: 4,
-        printed: "trap 5 DepthAtReturn\n",
-    },
-    Row {
-        words: &["run", "z", "s", "i", "--out", "t", "--statement", "u"],
-        files: &[
-            ("z", Content::Lines(168, 0, "")),
-            ("s", Content::Text("begin adv_push.2 end")),
-            ("i", Content::Text(r#"{"advice":[6],"stack":[]}"#)),
-        ],
-        failing_call: 0,
-        failing_write: 0,
-        number: 4,
-        printed: "trap 2 AdviceEmpty\n",
-    },
-    Row {
-        words: &["run", "z", "s", "i", "--out", "t", "--statement", "u"],
-        files: &[
-            ("z", Content::Lines(168, 0, "")),
-            ("s", Content::Text("begin push.2 assert end")),
-            ("i", Content::Text(r#"{"advice":[],"stack":[]}"#)),
-        ],
-        failing_call: 0,
-        failing_write: 0,
-        number: 4,
-        printed: "trap 2 AssertFailed\n",
-    },
-    Row {
-        words: &[
-            "run",
-            "z",
-            "s",
-            "i",
-            "--out",
-            "t",
-            "--statement",
-            "u",
-            "--limit=2",
-        ],
-        files: &[
-            ("z", Content::Lines(168, 0, "")),
-            ("s", Content::Text("begin end")),
-            ("i", Content::Text(r#"{"advice":[],"stack":[]}"#)),
-        ],
-        failing_call: 0,
-        failing_write: 0,
-        number: 5,
-        printed: "out of cycles 2\n",
-    },
-    Row {
-        words: &[
-            "run",
-            "z",
-            "s",
-            "i",
-            "--out",
-            "t",
-            "--statement",
-            "u",
-            "--kernel",
-            "k",
-        ],
-        files: &[
-            ("z", Content::Lines(168, 0, "")),
-            ("s", Content::Text("begin frob end")),
-            ("i", Content::Text(r#"{"advice":[],"stack":[]}"#)),
-            ("k", Content::Text("begin end")),
-        ],
-        failing_call: 0,
-        failing_write: 0,
-        number: 3,
-        printed: "source k 1 1 KernelBody\n",
-    },
-    Row {
-        words: &["run", "z", "s", "i", "--out", "t", "--statement", "u"],
-        files: &[
-            ("z", Content::Lines(168, 0, "")),
-            ("s", Content::Text("begin frob end")),
-            ("i", Content::Text(r#"{"advice":[],"stack":[]}"#)),
-        ],
-        failing_call: 0,
-        failing_write: 0,
-        number: 3,
-        printed: "source s 1 7 UnknownInstruction\n",
-    },
-    Row {
-        words: &["run", "z", "s", "i", "--out", "t", "--statement", "u"],
-        files: &[
-            ("z", Content::Lines(168, 0, "")),
-            ("s", Content::Text("begin frob end")),
-            ("i", Content::Text("{")),
-        ],
-        failing_call: 0,
-        failing_write: 0,
-        number: 10,
-        printed: "malformed i NotJson\n",
-    },
-    Row {
-        words: &[
-            "run",
-            "z",
-            "s",
-            "i",
-            "--out",
-            "t",
-            "--statement",
-            "u",
-            "--kernel",
-            "k",
-        ],
-        files: &[
-            ("z", Content::Lines(168, 0, "")),
-            ("s", Content::Text("begin frob end")),
-            ("i", Content::Text(r#"{"stack":[]}"#)),
-        ],
-        failing_call: 0,
-        failing_write: 0,
-        number: 10,
-        printed: "malformed i Shape\n",
-    },
-    Row {
-        words: &[
-            "run",
-            "z",
-            "s",
-            "i",
-            "--out",
-            "t",
-            "--statement",
-            "u",
-            "--kernel",
-            "k",
-        ],
-        files: &[
-            ("z", Content::Lines(168, 0, "")),
-            ("s", Content::Text("begin frob end")),
-            ("i", Content::Text(r#"{"advice":[],"stack":[]}"#)),
-        ],
-        failing_call: 0,
-        failing_write: 0,
-        number: 6,
-        printed: "missing k\n",
-    },
-    Row {
-        words: &["run", "z", "s", "i", "--out", "t", "--statement", "u"],
-        files: &[
-            ("z", Content::Lines(168, 0, "")),
-            ("s", Content::Text("begin end")),
-            ("i", Content::Inputs(1025)),
-        ],
-        failing_call: 0,
-        failing_write: 0,
-        number: 10,
-        printed: "malformed i Count\n",
-    },
-    Row {
-        words: &["run", "z", "s", "i", "--out", "t", "--statement", "u"],
-        files: &[
-            ("z", Content::Lines(168, 0, "")),
-            ("s", Content::Text("begin frob end")),
-        ],
-        failing_call: 0,
-        failing_write: 0,
-        number: 6,
-        printed: "missing i\n",
-    },
-    Row {
-        words: &["run", "z", "s", "i", "--out", "t", "--statement", "u"],
-        files: &[
-            ("z", Content::Lines(168, 0, "")),
-            ("i", Content::Text(r#"{"advice":[],"stack":[]}"#)),
-        ],
-        failing_call: 0,
-        failing_write: 0,
-        number: 6,
-        printed: "missing s\n",
-    },
-    Row {
-        words: &["run", "z", "s", "i", "--out", "t", "--statement", "u"],
-        files: &[
-            ("z", Content::Lines(168, 0, "")),
-            ("s", Content::Text("begin end")),
-            ("i", Content::Text(r#"{"advice":[],"stack":[]}"#)),
-        ],
-        failing_call: 3,
-        failing_write: 0,
-        number: 7,
-        printed: "read fault i\n",
-    },
+static STOPPED: [Row; 15] = rows! {
+    RUN {z, s = "begin push.4294967296 push.1 u32wrapping_add end", i} => 4 "trap 3 NotU32\n";
+    RUN {z, s = "proc.f push.1 end begin call.f end", i} => 4 "trap 5 DepthAtReturn\n";
+    RUN {z, s = "begin adv_push.2 end", i = r#"{"advice":[6],"stack":[]}"#} => 4 "trap 2 AdviceEmpty\n";
+    RUN {z, s = "begin push.2 assert end", i} => 4 "trap 2 AssertFailed\n";
+    b"run z s i --out t --statement u --limit=2" {z, s = "begin end", i} => 5 "out of cycles 2\n";
+    b"run z s i --out t --statement u --kernel k" {z, s = "begin frob end", i, k = "begin end"} => 3 "source k 1 1 KernelBody\n";
+    RUN {z, s = "begin frob end", i} => 3 "source s 1 7 UnknownInstruction\n";
+    RUN {z, s = "begin frob end", i = "{"} => 10 "malformed i NotJson\n";
+    b"run z s i --out t --statement u --kernel k" {z, s = "begin frob end", i = r#"{"stack":[]}"#} => 10 "malformed i Shape\n";
+    b"run z s i --out t --statement u --kernel k" {z, s = "begin frob end", i} => 6 "missing k\n";
+    RUN {z, s = "begin end", i: Inputs(1025)} => 10 "malformed i Count\n";
+    RUN {z, s = "begin frob end"} => 6 "missing i\n";
+    RUN {z, i} => 6 "missing s\n";
+    RUN {z, s = "begin end", i} => 7 "read fault i\n" call 3;
     // 33,554,434 bytes
-    Row {
-        words: &["run", "z", "s", "i", "--out", "t", "--statement", "u"],
-        files: &[
-            ("z", Content::Lines(168, 0, "")),
-            ("s", Content::Text("begin end")),
-            ("i", Content::Lines(16777217, 0, "")),
-        ],
-        failing_call: 0,
-        failing_write: 0,
-        number: 11,
-        printed: "too long i\n",
-    },
-];
+    RUN {z, s = "begin end", i: Lines(16777217, 0, "")} => 11 "too long i\n";
+};
 
 // The write of the table file fails.
-static FAILED: [Row; 1] = [Row {
-    words: &["run", "z", "s", "i", "--out", "t", "--statement", "u"],
-    files: &[
-        ("z", Content::Lines(168, 0, "")),
-        ("s", Content::Text("begin end")),
-        ("i", Content::Text(r#"{"advice":[],"stack":[]}"#)),
-    ],
-    failing_call: 4,
-    failing_write: 0,
-    number: 8,
-    printed: "write fault t\n",
-}];
+static FAILED: [Row; 1] = rows! {
+    RUN {z, s = "begin end", i} => 8 "write fault t\n" call 4;
+};
 
 // Each writes the whole table file of `begin end`, the first and the last its statement too.
-static WHOLE: [Row; 3] = [
-    Row {
-        words: &["run", "z", "s", "i", "--out", "t", "--statement", "u"],
-        files: &[
-            ("z", Content::Lines(168, 0, "")),
-            ("s", Content::Text("begin end")),
-            ("i", Content::Text(r#"{"advice":[],"stack":[]}"#)),
-        ],
-        failing_call: 0,
-        failing_write: 0,
-        number: 0,
-        printed: "cycles 3\noutputs 0 0 0 0 0 0 0 0 0 0 0 0 0 0 0 0\n",
-    },
-    Row {
-        words: &["run", "z", "s", "i", "--out", "t", "--statement", "u"],
-        files: &[
-            ("z", Content::Lines(168, 0, "")),
-            ("s", Content::Text("begin end")),
-            ("i", Content::Text(r#"{"advice":[],"stack":[]}"#)),
-        ],
-        failing_call: 5,
-        failing_write: 0,
-        number: 8,
-        printed: "write fault u\n",
-    },
-    Row {
-        words: &["run", "z", "s", "i", "--out", "t", "--statement", "u"],
-        files: &[
-            ("z", Content::Lines(168, 0, "")),
-            ("s", Content::Text("begin end")),
-            ("i", Content::Text(r#"{"advice":[],"stack":[]}"#)),
-        ],
-        failing_call: 0,
-        failing_write: 1,
-        number: 9,
-        printed: "cycles 3\noutputs 0 0 0 0",
-    },
-];
+static WHOLE: [Row; 3] = rows! {
+    RUN {z, s = "begin end", i} => 0 "cycles 3\noutputs 0 0 0 0 0 0 0 0 0 0 0 0 0 0 0 0\n";
+    RUN {z, s = "begin end", i} => 8 "write fault u\n" call 5;
+    RUN {z, s = "begin end", i} => 9 "cycles 3\noutputs 0 0 0 0" write 1;
+};
 
 #[test]
 fn runs_are_accepted(rt: HostRuntime) -> Result<(), Fail> {
-    all_accepted(&rt, &RAN, &["check", "z", "t", "u", "--evidence", "e"])
+    all_accepted(&rt, &RAN)
 }
 
 // In the first the bits of how many positions the batch uses say 4 and not 2; in the second a clock goes on by 2, and below it the
 // last cell that is seen changes.
-static FORGED: [Forgery; 2] = [
-    Forgery {
-        run: Row {
-            words: &["run", "z", "s", "i", "--out", "t", "--statement", "u"],
-            files: &[
-                ("z", Content::Lines(168, 0, "")),
-                ("s", Content::Text("begin push.5 end")),
-                ("i", Content::Text(r#"{"advice":[],"stack":[]}"#)),
-            ],
-            failing_call: 0,
-            failing_write: 0,
-            number: 0,
-            printed: "cycles 4\noutputs 5 0 0 0 0 0 0 0 0 0 0 0 0 0 0 0 0\n",
-        },
-        changes: &[Change::Cell(0, 28, 1), Change::Cell(0, 29, 0)],
-        check: Row {
-            words: &["check", "z", "t", "u", "--evidence", "e"],
-            files: &[],
-            failing_call: 0,
-            failing_write: 0,
-            number: 1,
-            printed: "refused main row 0 constraint 103 value 18446744069414584320\n",
-        },
-    },
-    Forgery {
-        run: Row {
-            words: &["run", "z", "s", "i", "--out", "t", "--statement", "u"],
-            files: &[
-                ("z", Content::Lines(168, 0, "")),
-                ("s", Content::Text("begin repeat.73 neg end end")),
-                ("i", Content::Text(r#"{"advice":[],"stack":[]}"#)),
-            ],
-            failing_call: 0,
-            failing_write: 0,
-            number: 0,
-            printed: "cycles 76\noutputs 0 0 0 0 0 0 0 0 0 0 0 0 0 0 0 0\n",
-        },
-        changes: &[Change::Cell(67, 0, 68), Change::Cell(70, 45, 1)],
-        check: Row {
-            words: &["check", "z", "t", "u", "--evidence", "e"],
-            files: &[],
-            failing_call: 0,
-            failing_write: 0,
-            number: 1,
-            printed: "refused main row 66 constraint 10 value 1\n",
-        },
-    },
-];
+static FORGED: [Forgery; 2] = forgeries! {
+    RUN {z, s = "begin push.5 end", i} => 0 "cycles 4\noutputs 5 0 0 0 0 0 0 0 0 0 0 0 0 0 0 0 0\n" changed [Cell(0, 28, 1), Cell(0, 29, 0)],
+        CHECK {} => 1 "refused main row 0 constraint 103 value 18446744069414584320\n";
+    RUN {z, s = "begin repeat.73 neg end end", i} => 0 "cycles 76\noutputs 0 0 0 0 0 0 0 0 0 0 0 0 0 0 0 0\n"
+        changed [Cell(67, 0, 68), Cell(70, 45, 1)],
+        CHECK {} => 1 "refused main row 66 constraint 10 value 1\n";
+};
 
 #[test]
 fn forged_tables_are_refused(rt: HostRuntime) -> Result<(), Fail> {
@@ -452,7 +67,7 @@ fn forged_tables_are_refused(rt: HostRuntime) -> Result<(), Fail> {
 
 #[test]
 fn others_are_answered(rt: HostRuntime) -> Result<(), Fail> {
-    all_stop(&rt, &STOPPED)?;
+    all_leave(&rt, &STOPPED, &[], &["t", "u"])?;
     all_hold(&rt, &FAILED)
 }
 
@@ -462,123 +77,19 @@ fn tables_are_written(rt: HostRuntime) -> Result<(), Fail> {
     all_write(&rt, &WHOLE[..1], "u", &Content::Text(STATEMENT))
 }
 
-static WRONG: [&[&str]; 18] = [
-    &["run", "z", "s", "i"],
-    &["run", "z", "s", "i", "--out", "t"],
-    &["run", "z", "s", "i", "--statement", "u"],
-    &["run", "z", "s", "--out", "t", "--statement", "u"],
-    &["run", "z", "s", "i", "j", "--out", "t", "--statement", "u"],
-    &["run", "z", "s", "i", "--out", "t", "--statement", "t"],
-    &["run", "z", "s", "i", "--out", "z", "--statement", "u"],
-    &["run", "z", "s", "i", "--out", "t", "--statement", "s"],
-    &["run", "z", "s", "i", "--out", "t", "--statement", "i"],
-    &[
-        "run",
-        "z",
-        "s",
-        "i",
-        "--out",
-        "k",
-        "--statement",
-        "u",
-        "--kernel",
-        "k",
-    ],
-    &[
-        "run",
-        "z",
-        "s",
-        "i",
-        "--out",
-        "t",
-        "--statement",
-        "u",
-        "--limit",
-        "0",
-    ],
-    &[
-        "run",
-        "z",
-        "s",
-        "i",
-        "--out",
-        "t",
-        "--statement",
-        "u",
-        "--limit",
-        "524288",
-    ],
-    &[
-        "run",
-        "z",
-        "s",
-        "i",
-        "--out",
-        "t",
-        "--statement",
-        "u",
-        "--limit",
-        "05",
-    ],
-    &[
-        "run",
-        "z",
-        "s",
-        "i",
-        "--out",
-        "t",
-        "--statement",
-        "u",
-        "--limit=",
-    ],
-    &[
-        "run",
-        "z",
-        "s",
-        "i",
-        "--out",
-        "t",
-        "--statement",
-        "u",
-        "--limit",
-        "3",
-        "--limit=3",
-    ],
-    &[
-        "run",
-        "z",
-        "s",
-        "i",
-        "--out",
-        "t",
-        "--statement",
-        "u",
-        "--kernel=",
-    ],
-    &[
-        "run",
-        "z",
-        "s",
-        "i",
-        "--out",
-        "t",
-        "--statement",
-        "u",
-        "--out",
-        "v",
-    ],
-    &[
-        "run",
-        "z",
-        "s",
-        "i",
-        "--out",
-        "t",
-        "--statement",
-        "u",
-        "--evidence",
-        "e",
-    ],
+// Others stand in words.rt.
+static WRONG: [&[u8]; 11] = [
+    b"run z s i",
+    b"run z s i --statement u",
+    b"run z s --out t --statement u",
+    b"run z s i j --out t --statement u",
+    b"run z s i --out t --statement s",
+    b"run z s i --out k --statement u --kernel k",
+    b"run z s i --out t --statement u --limit 05",
+    b"run z s i --out t --statement u --limit 3 --limit=3",
+    b"run z s i --out t --statement u --kernel=",
+    b"run z s i --out t --statement u --out v",
+    b"run z s i --out t --statement u --evidence e",
 ];
 
 #[test]

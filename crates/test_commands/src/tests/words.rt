@@ -1,46 +1,32 @@
-use miden_app::{Seed, serve};
-use std::alloc::Global;
-use std::process::Abort;
+use crate::tests::calls::{all_hold, all_wrong, answers_words};
+use crate::tests::row::{Row, row, rows};
 use std::test::Fail;
-use std::thread::Threads;
-use vm_field::Memory;
-use vm_io::{MemShelf, MemSink, OpenGate};
+use vm_io::MemShelf;
 
-/// The number of the status that a missing file has, and of that of words of no command.
-const MISSING: u8 = 6;
-
-const USAGE: u8 = 2;
-
-// Words of a command, with a space between two of them, and the file that is looked for first.
-static READ: [(&[u8], &str); 21] = [
-    (b"hash z n", "missing z\n"),
-    (b"hash z n --", "missing z\n"),
-    (b"hash z -- n", "missing z\n"),
-    (b"hash -- z n", "missing z\n"),
-    (b"hash help n", "missing help\n"),
-    (b"hash a-b/c_d.e n", "missing a-b/c_d.e\n"),
-    (b"check --evidence e z t s", "missing z\n"),
-    (b"check --evidence=e z t s", "missing z\n"),
-    (b"check z --evidence e t s", "missing z\n"),
-    (b"check z t --evidence=e s", "missing z\n"),
-    (b"check z t s --evidence e", "missing z\n"),
-    (b"check z t s --evidence=e", "missing z\n"),
-    (b"check z t s --evidence e --", "missing z\n"),
-    (b"check --evidence e -- z t s", "missing z\n"),
-    (b"check z z z --evidence e", "missing z\n"),
-    (b"assemble z s --kernel s", "missing z\n"),
-    (b"run z s i --out t --statement u", "missing z\n"),
-    (b"run --statement=u z --limit 1 s --out t i", "missing z\n"),
-    (
-        b"run z s i --out t --statement u --limit=524287",
-        "missing z\n",
-    ),
-    (
-        b"run --kernel k --limit 7 --out=t --statement u -- z s i",
-        "missing z\n",
-    ),
-    (b"run z s s --out t --statement u --kernel s", "missing z\n"),
-];
+// Words of a command, and the file that is looked for first.
+static READ: [Row; 21] = rows! {
+    b"hash z n" {} => 6 "missing z\n";
+    b"hash z n --" {} => 6 "missing z\n";
+    b"hash z -- n" {} => 6 "missing z\n";
+    b"hash -- z n" {} => 6 "missing z\n";
+    b"hash help n" {} => 6 "missing help\n";
+    b"hash a-b/c_d.e n" {} => 6 "missing a-b/c_d.e\n";
+    b"check --evidence e z t s" {} => 6 "missing z\n";
+    b"check --evidence=e z t s" {} => 6 "missing z\n";
+    b"check z --evidence e t s" {} => 6 "missing z\n";
+    b"check z t --evidence=e s" {} => 6 "missing z\n";
+    b"check z t s --evidence e" {} => 6 "missing z\n";
+    b"check z t s --evidence=e" {} => 6 "missing z\n";
+    b"check z t s --evidence e --" {} => 6 "missing z\n";
+    b"check --evidence e -- z t s" {} => 6 "missing z\n";
+    b"check z z z --evidence e" {} => 6 "missing z\n";
+    b"assemble z s --kernel s" {} => 6 "missing z\n";
+    b"run z s i --out t --statement u" {} => 6 "missing z\n";
+    b"run --statement=u z --limit 1 s --out t i" {} => 6 "missing z\n";
+    b"run z s i --out t --statement u --limit=524287" {} => 6 "missing z\n";
+    b"run --kernel k --limit 7 --out=t --statement u -- z s i" {} => 6 "missing z\n";
+    b"run z s s --out t --statement u --kernel s" {} => 6 "missing z\n";
+};
 
 // Words of no command.
 static WRONG: [&[u8]; 24] = [
@@ -172,61 +158,20 @@ static NO_TEXT: [&[u8]; 17] = [
     b"run z s i --out t --statement u --kernel=\xed\xa0\x80",
 ];
 
-// The words between spaces.
-fn words_of(alloc: Global, line: &[u8]) -> Result<Vec<Vec<u8>>, Memory> {
-    let mut words = Vec::new(alloc);
-    let mut word = Vec::new(alloc);
-    for byte in line {
-        if *byte == b' ' {
-            words.push(word)?;
-            word = Vec::new(alloc);
-        } else {
-            word.push(*byte)?;
-        }
-    }
-    words.push(word)?;
-    Ok(words)
-}
-
-// Whether the words are answered so, over a shelf with no file.
-fn is_answered(
-    rt: &(impl Threads + Sync),
-    alloc: Global,
-    line: &[u8],
-    number: u8,
-    printed: &str,
-) -> Result<bool, Memory> {
-    let words = words_of(alloc, line)?;
-    let mut sink = MemSink::new(alloc);
-    let status = serve(
-        rt,
-        alloc,
-        Seed::new(0),
-        words.as_slice(),
-        &mut MemShelf::new(alloc),
-        &mut sink,
-        &OpenGate,
-    );
-    Ok(status.number() == number && sink.taken() == printed.as_bytes())
-}
-
-fn all_wrong(
-    rt: &(impl Abort + AllocGlobal + Threads + Sync),
-    lines: &[&[u8]],
-) -> Result<(), Fail> {
-    for line in lines {
-        let holds = is_answered(rt, rt.alloc(), line, USAGE, "usage\n")?;
-        assert!(rt; holds, "{line:?}");
-    }
-    Ok(())
-}
-
 #[test]
 fn words_are_read(rt: HostRuntime) -> Result<(), Fail> {
-    for (line, printed) in &READ {
-        let holds = is_answered(&rt, rt.alloc(), line, MISSING, printed)?;
-        assert!(rt; holds, "{line:?}");
-    }
+    all_hold(&rt, &READ)
+}
+
+static USAGE: Row = row! {
+    b"" {} => 2 "usage\n"
+};
+
+#[test]
+fn no_word_is_no_command(rt: HostRuntime) -> Result<(), Fail> {
+    let mut shelf = MemShelf::new(rt.alloc());
+    let holds = answers_words(&rt, rt.alloc(), &[], &USAGE, &mut shelf)?;
+    assert!(rt; holds);
     Ok(())
 }
 

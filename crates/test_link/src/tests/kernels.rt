@@ -1,43 +1,30 @@
-use super::{assembled, chain, is_refused};
-use masm_link::{AsmCause, AsmError};
+use super::{assembled, bad, chain, is_refused, refused};
+use masm_link::AsmCause;
 use std::alloc::{AllocError, Global};
 use std::test::Fail;
 
 // A kernel that is refused on its first line, by the column and the cause.
 type Row = (&'static [u8], u32, AsmCause);
 
-static KERNELS: [Row; 13] = [
-    (b"begin end", 1, AsmCause::KernelBody),
-    (b"export.f end proc.f end", 14, AsmCause::Duplicate),
-    (b"export.f exec.g end", 10, AsmCause::UnknownProcedure),
-    (b"export.f exec.f end", 10, AsmCause::Recursive),
-    (b"export.f dynexec end", 10, AsmCause::KernelBody),
-    (
-        b"export.f end proc.g repeat.10000 repeat.10000 neg end end end",
-        14,
-        AsmCause::TooManyOps,
-    ),
-    (b"\x80", 1, AsmCause::Lexical),
-    (b"export.f", 9, AsmCause::Syntax),
-    (b"export.f emit.1 end", 10, AsmCause::Unsupported),
-    (b"export.f frob end", 10, AsmCause::UnknownInstruction),
-    (b"export.f swap.0 end", 10, AsmCause::NumberRange),
-    (b"export.f loc_load.0 end", 10, AsmCause::LocalsRange),
-    (b"export.f repeat.0 neg end end", 10, AsmCause::RepeatRange),
-];
-
-fn refused_at(line: u32, column: u32, cause: AsmCause) -> AsmError {
-    AsmError::Bad {
-        in_kernel: true,
-        line,
-        column,
-        cause,
-    }
-}
+static KERNELS: [Row; 13] = refused! {
+    b"begin end" 1 KernelBody;
+    b"export.f end proc.f end" 14 Duplicate;
+    b"export.f exec.g end" 10 UnknownProcedure;
+    b"export.f exec.f end" 10 Recursive;
+    b"export.f dynexec end" 10 KernelBody;
+    b"export.f end proc.g repeat.10000 repeat.10000 neg end end end" 14 TooManyOps;
+    b"\x80" 1 Lexical;
+    b"export.f" 9 Syntax;
+    b"export.f emit.1 end" 10 Unsupported;
+    b"export.f frob end" 10 UnknownInstruction;
+    b"export.f swap.0 end" 10 NumberRange;
+    b"export.f loc_load.0 end" 10 LocalsRange;
+    b"export.f repeat.0 neg end end" 10 RepeatRange;
+};
 
 // A kernel's refusal stands before that of the program.
 fn is_kernel_refused(alloc: Global, row: &Row) -> bool {
-    let want = refused_at(1, row.1, row.2);
+    let want = bad(true, 1, row.1, row.2);
     is_refused(alloc, Some(row.0), b"begin frob end", want)
 }
 
@@ -63,7 +50,7 @@ fn exports(alloc: Global, count: u32) -> Result<String, AllocError> {
 fn exports_of(alloc: Global, count: u32) -> Result<(usize, bool), AllocError> {
     let source = exports(alloc, count)?;
     let text = source.as_str();
-    let want = refused_at(256, 1, AsmCause::TooManyExports);
+    let want = bad(true, 256, 1, AsmCause::TooManyExports);
     let refused = is_refused(alloc, Some(text.as_bytes()), b"begin end", want);
     Ok((kernel_counts(alloc, text).0, refused))
 }
@@ -84,7 +71,7 @@ fn nested(alloc: Global, count: u32) -> Result<String, AllocError> {
 // Whether a kernel of so many branches in one another is refused at the 257th.
 fn is_nest_refused(alloc: Global, count: u32) -> Result<bool, AllocError> {
     let source = nested(alloc, count)?;
-    let want = refused_at(1, 2058, AsmCause::TooDeep);
+    let want = bad(true, 1, 2058, AsmCause::TooDeep);
     Ok(is_refused(alloc, Some(source.as_bytes()), b"begin end", want))
 }
 
@@ -98,7 +85,7 @@ fn chained(alloc: Global, count: u32) -> Result<String, AllocError> {
 // Whether such a kernel is refused at the 1,025th procedure.
 fn is_chain_refused(alloc: Global, count: u32) -> Result<bool, AllocError> {
     let source = chained(alloc, count)?;
-    let want = refused_at(1025, 1, AsmCause::TooDeep);
+    let want = bad(true, 1025, 1, AsmCause::TooDeep);
     Ok(is_refused(alloc, Some(source.as_bytes()), b"begin end", want))
 }
 

@@ -1,4 +1,4 @@
-use super::is_refused;
+use super::{bad, is_refused, pairs, refused};
 use block_tree::{Program, digest};
 use masm_lex::MAX_SOURCE;
 use masm_link::{AsmCause, AsmError, assemble, assemble_with};
@@ -15,101 +15,48 @@ const CONSTANTS: Params = Params {
 };
 
 // The instructions of the library's procedures, as a source writes them.
-static PROCEDURES: [(&str, &str); 11] = [
-    (
-        "u64_overflowing_add",
-        "swap movup.3 u32overflowing_add movup.3 movup.3 u32overflowing_add3",
-    ),
-    (
-        "u64_wrapping_add",
-        "swap movup.3 u32overflowing_add movup.3 movup.3 u32overflowing_add3 drop",
-    ),
-    (
-        "u64_checked_add",
-        "swap movup.3 u32overflowing_add movup.3 movup.3 u32overflowing_add3 assertz",
-    ),
-    (
-        "u64_overflowing_sub",
-        "movup.3 movup.2 u32overflowing_sub movup.3 movup.3 u32overflowing_sub swap movup.2 u32overflowing_sub movup.2 or",
-    ),
-    (
-        "u64_wrapping_sub",
-        "movup.3 movup.2 u32overflowing_sub movup.3 movup.3 u32overflowing_sub swap movup.2 u32overflowing_sub movup.2 or drop",
-    ),
-    (
-        "u64_checked_sub",
-        "movup.3 movup.2 u32overflowing_sub movup.3 movup.3 u32overflowing_sub swap movup.2 u32overflowing_sub movup.2 or assertz",
-    ),
-    (
-        "u64_lt",
-        "movup.3 movup.2 u32overflowing_sub movup.3 movup.3 u32overflowing_sub swap movup.2 u32overflowing_sub movup.2 or movdn.2 drop drop",
-    ),
-    (
-        "u64_gte",
-        "movup.3 movup.2 u32overflowing_sub movup.3 movup.3 u32overflowing_sub swap movup.2 u32overflowing_sub movup.2 or movdn.2 drop drop not",
-    ),
-    (
-        "u64_gt",
-        "movup.3 movup.3 movup.3 movup.2 u32overflowing_sub movup.3 movup.3 u32overflowing_sub swap movup.2 u32overflowing_sub movup.2 or movdn.2 drop drop",
-    ),
-    (
-        "u64_lte",
-        "movup.3 movup.3 movup.3 movup.2 u32overflowing_sub movup.3 movup.3 u32overflowing_sub swap movup.2 u32overflowing_sub movup.2 or movdn.2 drop drop not",
-    ),
-    ("u64_eq", "u32assertw movup.2 eq movdn.2 eq and"),
-];
+static PROCEDURES: [(&str, &str); 11] = pairs! {
+    "u64_overflowing_add" => "swap movup.3 u32overflowing_add movup.3 movup.3 u32overflowing_add3";
+    "u64_wrapping_add" => "swap movup.3 u32overflowing_add movup.3 movup.3 u32overflowing_add3 drop";
+    "u64_checked_add" => "swap movup.3 u32overflowing_add movup.3 movup.3 u32overflowing_add3 assertz";
+    "u64_overflowing_sub" => "movup.3 movup.2 u32overflowing_sub movup.3 movup.3 u32overflowing_sub swap movup.2 u32overflowing_sub movup.2 or";
+    "u64_wrapping_sub" => "movup.3 movup.2 u32overflowing_sub movup.3 movup.3 u32overflowing_sub swap movup.2 u32overflowing_sub movup.2 or drop";
+    "u64_checked_sub" => "movup.3 movup.2 u32overflowing_sub movup.3 movup.3 u32overflowing_sub swap movup.2 u32overflowing_sub movup.2 or assertz";
+    "u64_lt" => "movup.3 movup.2 u32overflowing_sub movup.3 movup.3 u32overflowing_sub swap movup.2 u32overflowing_sub movup.2 or movdn.2 drop drop";
+    "u64_gte" => "movup.3 movup.2 u32overflowing_sub movup.3 movup.3 u32overflowing_sub swap movup.2 u32overflowing_sub movup.2 or movdn.2 drop drop not";
+    "u64_gt"
+        => "movup.3 movup.3 movup.3 movup.2 u32overflowing_sub movup.3 movup.3 u32overflowing_sub swap movup.2 u32overflowing_sub movup.2 or movdn.2 drop \
+            drop";
+    "u64_lte"
+        => "movup.3 movup.3 movup.3 movup.2 u32overflowing_sub movup.3 movup.3 u32overflowing_sub swap movup.2 u32overflowing_sub movup.2 or movdn.2 drop \
+            drop not";
+    "u64_eq" => "u32assertw movup.2 eq movdn.2 eq and";
+};
 
 // Sources that mean the same: the first with the library, the second without it.
-static SAME: [(&str, &str); 6] = [
-    ("begin neg end", "begin neg end"),
-    (
-        "proc.u64_eq neg end begin exec.u64_eq call.u64_eq procref.u64_eq dynexec end",
-        "proc.u64_eq neg end begin exec.u64_eq call.u64_eq procref.u64_eq dynexec end",
-    ),
-    (
-        "proc.f.1 exec.u64_eq loc_store.0 end begin call.f repeat.3 exec.u64_eq end end",
-        "proc.f.1 u32assertw movup.2 eq movdn.2 eq and loc_store.0 end begin call.f repeat.3 u32assertw movup.2 eq movdn.2 eq and end end",
-    ),
-    (
-        "proc.u64_lt exec.u64_eq end begin exec.u64_lt end",
-        "begin u32assertw movup.2 eq movdn.2 eq and end",
-    ),
-    (
-        "proc.f neg end begin procref.u64_eq procref.f procref.u64_eq dynexec end",
-        "proc.f neg end proc.u64_eq u32assertw movup.2 eq movdn.2 eq and end begin procref.u64_eq procref.f procref.u64_eq dynexec end",
-    ),
-    (
-        "proc.f procref.u64_eq end proc.g dynexec end begin call.g end",
-        "proc.f procref.h end proc.g dynexec end proc.h u32assertw movup.2 eq movdn.2 eq and end begin call.g end",
-    ),
-];
+static SAME: [(&str, &str); 6] = pairs! {
+    "begin neg end" => "begin neg end";
+    "proc.u64_eq neg end begin exec.u64_eq call.u64_eq procref.u64_eq dynexec end"
+        => "proc.u64_eq neg end begin exec.u64_eq call.u64_eq procref.u64_eq dynexec end";
+    "proc.f.1 exec.u64_eq loc_store.0 end begin call.f repeat.3 exec.u64_eq end end"
+        => "proc.f.1 u32assertw movup.2 eq movdn.2 eq and loc_store.0 end begin call.f repeat.3 u32assertw movup.2 eq movdn.2 eq and end end";
+    "proc.u64_lt exec.u64_eq end begin exec.u64_lt end" => "begin u32assertw movup.2 eq movdn.2 eq and end";
+    "proc.f neg end begin procref.u64_eq procref.f procref.u64_eq dynexec end"
+        => "proc.f neg end proc.u64_eq u32assertw movup.2 eq movdn.2 eq and end begin procref.u64_eq procref.f procref.u64_eq dynexec end";
+    "proc.f procref.u64_eq end proc.g dynexec end begin call.g end"
+        => "proc.f procref.h end proc.g dynexec end proc.h u32assertw movup.2 eq movdn.2 eq and end begin call.g end";
+};
 
 // Sources that are refused with the library on their first line, by the column and the cause. The kernel
 // exports `k`. A procedure of seven operations stands 74,898 times in trees of more than 524,288.
-static REFUSED: [(&str, u32, AsmCause); 6] = [
-    ("begin exec.u64_add end", 7, AsmCause::UnknownProcedure),
-    (
-        "begin exec.u64_eq call.u64_eqz end",
-        19,
-        AsmCause::UnknownProcedure,
-    ),
-    ("begin syscall.u64_eq end", 7, AsmCause::NotInKernel),
-    (
-        "proc.u64_eq exec.u64_gt exec.u64_eq end begin end",
-        25,
-        AsmCause::Recursive,
-    ),
-    (
-        "begin repeat.10000 repeat.7 exec.u64_wrapping_add end end repeat.4898 exec.u64_wrapping_add end neg neg neg end",
-        1,
-        AsmCause::TooManyOps,
-    ),
-    (
-        "proc.f end proc.g repeat.10000 repeat.7 call.u64_wrapping_add end end repeat.4898 exec.u64_wrapping_add end neg neg neg end begin end",
-        12,
-        AsmCause::TooManyOps,
-    ),
-];
+static REFUSED: [(&str, u32, AsmCause); 6] = refused! {
+    "begin exec.u64_add end" 7 UnknownProcedure;
+    "begin exec.u64_eq call.u64_eqz end" 19 UnknownProcedure;
+    "begin syscall.u64_eq end" 7 NotInKernel;
+    "proc.u64_eq exec.u64_gt exec.u64_eq end begin end" 25 Recursive;
+    "begin repeat.10000 repeat.7 exec.u64_wrapping_add end end repeat.4898 exec.u64_wrapping_add end neg neg neg end" 1 TooManyOps;
+    "proc.f end proc.g repeat.10000 repeat.7 call.u64_wrapping_add end end repeat.4898 exec.u64_wrapping_add end neg neg neg end begin end" 12 TooManyOps;
+};
 
 // A source of 524,288 operations.
 static MOST: &str =
@@ -130,12 +77,7 @@ fn with_library(alloc: Global, kernel: Option<&[u8]>, source: &[u8]) -> Result<P
 }
 
 fn is_refused_with(alloc: Global, row: &(&str, u32, AsmCause)) -> bool {
-    let want = AsmError::Bad {
-        in_kernel: false,
-        line: 1,
-        column: row.1,
-        cause: row.2,
-    };
+    let want = bad(false, 1, row.1, row.2);
     match with_library(alloc, Some(b"export.k end"), row.0.as_bytes()) {
         Ok(_) => false,
         Err(error) => error == want,
@@ -207,12 +149,7 @@ fn stands_behind_the_source(rt: HostRuntime) -> Result<(), Fail> {
 fn is_wanted_for_its_names(rt: HostRuntime) -> Result<(), Fail> {
     for (name, _) in &PROCEDURES {
         let source = format!(in rt.alloc(); "begin exec.{name} end")?;
-        let want = AsmError::Bad {
-            in_kernel: false,
-            line: 1,
-            column: 7,
-            cause: AsmCause::UnknownProcedure,
-        };
+        let want = bad(false, 1, 7, AsmCause::UnknownProcedure);
         assert!(rt;
             is_refused(rt.alloc(), None, source.as_bytes(), want),
             "{name}"
@@ -232,12 +169,7 @@ fn refuses_other_names(rt: HostRuntime) -> Result<(), Fail> {
 
 #[test]
 fn is_not_the_kernels(rt: HostRuntime) -> Result<(), Fail> {
-    let want = AsmError::Bad {
-        in_kernel: true,
-        line: 1,
-        column: 10,
-        cause: AsmCause::UnknownProcedure,
-    };
+    let want = bad(true, 1, 10, AsmCause::UnknownProcedure);
     let found = with_library(rt.alloc(), Some(b"export.k exec.u64_eq end"), b"begin end");
     assert!(rt; found.is_err_and(|error| error == want));
     Ok(())

@@ -1,162 +1,55 @@
-use super::{assembled, chain, is_refused};
-use masm_link::{AsmCause, AsmError, cause_text};
+use super::{assembled, bad, chain, is_refused, refused};
+use masm_link::{AsmCause, cause_text};
 use std::alloc::{AllocError, Global};
 use std::test::Fail;
 
 // A source that is refused on its first line, by the column and the cause. Its kernel exports `k`.
 type Row = (&'static [u8], u32, AsmCause);
 
-static PROGRAMS: [Row; 41] = [
-    (b"begin mtree_get end", 7, AsmCause::Unsupported),
-    (b"begin frob end", 7, AsmCause::UnknownInstruction),
-    (b"begin repeat.0 neg end end", 7, AsmCause::RepeatRange),
-    (b"begin add", 10, AsmCause::Syntax),
-    (b"\x80", 1, AsmCause::Lexical),
-    (b"begin swap.0 end", 7, AsmCause::NumberRange),
-    (b"begin loc_load.0 end", 7, AsmCause::LocalsRange),
-    (b"begin exec.g end", 7, AsmCause::UnknownProcedure),
-    (b"begin syscall.j end", 7, AsmCause::NotInKernel),
-    (
-        b"begin exec.zz syscall.j end",
-        7,
-        AsmCause::UnknownProcedure,
-    ),
-    (b"begin syscall.j exec.zz end", 7, AsmCause::NotInKernel),
-    (
-        b"proc.f while.true if.true add else repeat.2 exec.g end end end end begin exec.f end",
-        45,
-        AsmCause::UnknownProcedure,
-    ),
-    (
-        b"const.N=1 const.N=2 begin push.N end",
-        11,
-        AsmCause::Duplicate,
-    ),
-    (
-        b"proc.f end const.N=1 const.N=2 proc.f end begin end",
-        22,
-        AsmCause::Duplicate,
-    ),
-    (
-        b"proc.f end proc.f exec.f end begin end",
-        12,
-        AsmCause::Duplicate,
-    ),
-    (b"proc.f exec.f end begin end", 8, AsmCause::Recursive),
-    (
-        b"proc.f exec.g end proc.g call.f end begin end",
-        8,
-        AsmCause::Recursive,
-    ),
-    (
-        b"proc.h exec.f end proc.f exec.f end begin end",
-        26,
-        AsmCause::Recursive,
-    ),
-    (
-        b"proc.a exec.b end proc.b exec.c end proc.c exec.d exec.b end proc.d end begin end",
-        26,
-        AsmCause::Recursive,
-    ),
-    (
-        b"proc.f exec.f exec.g end proc.g exec.h end proc.h end begin end",
-        8,
-        AsmCause::Recursive,
-    ),
-    (
-        b"proc.b exec.c end proc.c exec.d end proc.d exec.d end proc.a exec.a exec.b end begin end",
-        44,
-        AsmCause::Recursive,
-    ),
-    (
-        b"proc.f exec.g exec.f end begin end",
-        8,
-        AsmCause::UnknownProcedure,
-    ),
-    (
-        b"begin repeat.10000 repeat.10000 neg end end end",
-        1,
-        AsmCause::TooManyOps,
-    ),
-    (
-        b"proc.f repeat.10000 repeat.10000 neg end end end begin end",
-        1,
-        AsmCause::TooManyOps,
-    ),
-    (
-        b"begin repeat.9 repeat.9999 repeat.9999 repeat.9999 repeat.9999 neg end end end end end end",
-        1,
-        AsmCause::TooManyOps,
-    ),
-    (
-        b"begin repeat.10000 repeat.10000 repeat.10000 repeat.10000 repeat.10000 repeat.10000 repeat.10000 repeat.10000 neg end end end end end end end end end",
-        1,
-        AsmCause::TooManyOps,
-    ),
-    (
-        b"begin repeat.10000 repeat.10000 neg end end exec.g end",
-        45,
-        AsmCause::UnknownProcedure,
-    ),
-    (b"begin procref.g end", 7, AsmCause::UnknownProcedure),
-    (
-        b"begin procref.zz syscall.j end",
-        7,
-        AsmCause::UnknownProcedure,
-    ),
-    (b"proc.f procref.f end begin end", 8, AsmCause::Recursive),
-    (
-        b"proc.f procref.g end proc.g exec.f end begin end",
-        8,
-        AsmCause::Recursive,
-    ),
-    (
-        b"proc.h procref.f end proc.f call.g end proc.g procref.f end begin end",
-        29,
-        AsmCause::Recursive,
-    ),
-    (
-        b"proc.f end begin repeat.10000 repeat.13 procref.f end end repeat.1072 procref.f end neg end",
-        12,
-        AsmCause::TooManyOps,
-    ),
-    (
-        b"proc.f repeat.10000 repeat.10000 neg end end end begin procref.f end",
-        1,
-        AsmCause::TooManyOps,
-    ),
-    (
-        b"proc.f end proc.f repeat.10000 repeat.10000 neg end end end begin end",
-        12,
-        AsmCause::Duplicate,
-    ),
-    (b"begin dynexec.f end", 7, AsmCause::Syntax),
-    (
-        b"proc.f dynexec end begin procref.f end",
-        8,
-        AsmCause::Recursive,
-    ),
-    (
-        b"proc.f exec.g end proc.g neg dynexec end begin procref.f end",
-        30,
-        AsmCause::Recursive,
-    ),
-    (
-        b"proc.b exec.a end proc.a dynexec end proc.c exec.b dynexec end begin procref.b end",
-        26,
-        AsmCause::Recursive,
-    ),
-    (
-        b"proc.f repeat.1000 repeat.262 neg end end repeat.142 neg end end begin procref.f dynexec dynexec end",
-        66,
-        AsmCause::TooManyOps,
-    ),
-    (
-        b"proc.f repeat.51 neg end end begin procref.f repeat.10000 dynexec end repeat.82 dynexec end repeat.21 neg end end",
-        30,
-        AsmCause::TooManyOps,
-    ),
-];
+static PROGRAMS: [Row; 41] = refused! {
+    b"begin mtree_get end" 7 Unsupported;
+    b"begin frob end" 7 UnknownInstruction;
+    b"begin repeat.0 neg end end" 7 RepeatRange;
+    b"begin add" 10 Syntax;
+    b"\x80" 1 Lexical;
+    b"begin swap.0 end" 7 NumberRange;
+    b"begin loc_load.0 end" 7 LocalsRange;
+    b"begin exec.g end" 7 UnknownProcedure;
+    b"begin syscall.j end" 7 NotInKernel;
+    b"begin exec.zz syscall.j end" 7 UnknownProcedure;
+    b"begin syscall.j exec.zz end" 7 NotInKernel;
+    b"proc.f while.true if.true add else repeat.2 exec.g end end end end begin exec.f end" 45 UnknownProcedure;
+    b"const.N=1 const.N=2 begin push.N end" 11 Duplicate;
+    b"proc.f end const.N=1 const.N=2 proc.f end begin end" 22 Duplicate;
+    b"proc.f end proc.f exec.f end begin end" 12 Duplicate;
+    b"proc.f exec.f end begin end" 8 Recursive;
+    b"proc.f exec.g end proc.g call.f end begin end" 8 Recursive;
+    b"proc.h exec.f end proc.f exec.f end begin end" 26 Recursive;
+    b"proc.a exec.b end proc.b exec.c end proc.c exec.d exec.b end proc.d end begin end" 26 Recursive;
+    b"proc.f exec.f exec.g end proc.g exec.h end proc.h end begin end" 8 Recursive;
+    b"proc.b exec.c end proc.c exec.d end proc.d exec.d end proc.a exec.a exec.b end begin end" 44 Recursive;
+    b"proc.f exec.g exec.f end begin end" 8 UnknownProcedure;
+    b"begin repeat.10000 repeat.10000 neg end end end" 1 TooManyOps;
+    b"proc.f repeat.10000 repeat.10000 neg end end end begin end" 1 TooManyOps;
+    b"begin repeat.9 repeat.9999 repeat.9999 repeat.9999 repeat.9999 neg end end end end end end" 1 TooManyOps;
+    b"begin repeat.10000 repeat.10000 repeat.10000 repeat.10000 repeat.10000 repeat.10000 repeat.10000 repeat.10000 neg end end end end end end end end \
+        end" 1 TooManyOps;
+    b"begin repeat.10000 repeat.10000 neg end end exec.g end" 45 UnknownProcedure;
+    b"begin procref.g end" 7 UnknownProcedure;
+    b"begin procref.zz syscall.j end" 7 UnknownProcedure;
+    b"proc.f procref.f end begin end" 8 Recursive;
+    b"proc.f procref.g end proc.g exec.f end begin end" 8 Recursive;
+    b"proc.h procref.f end proc.f call.g end proc.g procref.f end begin end" 29 Recursive;
+    b"proc.f end begin repeat.10000 repeat.13 procref.f end end repeat.1072 procref.f end neg end" 12 TooManyOps;
+    b"proc.f repeat.10000 repeat.10000 neg end end end begin procref.f end" 1 TooManyOps;
+    b"proc.f end proc.f repeat.10000 repeat.10000 neg end end end begin end" 12 Duplicate;
+    b"begin dynexec.f end" 7 Syntax;
+    b"proc.f dynexec end begin procref.f end" 8 Recursive;
+    b"proc.f exec.g end proc.g neg dynexec end begin procref.f end" 30 Recursive;
+    b"proc.b exec.a end proc.a dynexec end proc.c exec.b dynexec end begin procref.b end" 26 Recursive;
+    b"proc.f repeat.1000 repeat.262 neg end end repeat.142 neg end end begin procref.f dynexec dynexec end" 66 TooManyOps;
+    b"proc.f repeat.51 neg end end begin procref.f repeat.10000 dynexec end repeat.82 dynexec end repeat.21 neg end end" 30 TooManyOps;
+};
 
 static ACCEPTED: [&str; 10] = [
     "begin end",
@@ -172,12 +65,7 @@ static ACCEPTED: [&str; 10] = [
 ];
 
 fn is_program_refused(alloc: Global, row: &Row) -> bool {
-    let want = AsmError::Bad {
-        in_kernel: false,
-        line: 1,
-        column: row.1,
-        cause: row.2,
-    };
+    let want = bad(false, 1, row.1, row.2);
     is_refused(alloc, Some(b"export.k end"), row.0, want)
 }
 
@@ -191,12 +79,7 @@ fn is_chain_refused(alloc: Global, count: u32, main: &str, line: u32) -> Result<
     source.push_str("begin ")?;
     source.push_str(main)?;
     source.push_str(" end")?;
-    let want = AsmError::Bad {
-        in_kernel: false,
-        line,
-        column: 1,
-        cause: AsmCause::TooDeep,
-    };
+    let want = bad(false, line, 1, AsmCause::TooDeep);
     Ok(is_refused(alloc, None, source.as_bytes(), want))
 }
 

@@ -1,4 +1,4 @@
-use super::assembled;
+use super::{assembled, pairs};
 use block_tree::Tree;
 use masm_link::{AsmError, assembled_trees};
 use std::alloc::{AllocError, Global};
@@ -21,19 +21,13 @@ static TWO_BATCHES: [[u64; 8]; 2] = [[145249953336295682; 8], [2, 0, 0, 0, 0, 0,
 
 // Trees by their spans' first groups, joins in brackets, and targets in square ones. ADD is 37, and two
 // of them are 37 + 128 * 37.
-static TREES: [(&str, &str); 5] = [
-    (
-        "begin add while.true end add add while.true end end",
-        "((37 L0) (4773 L0))",
-    ),
-    (
-        "begin while.true end while.true add end while.true add add end end",
-        "((L0 L37) L4773)",
-    ),
-    ("begin if.true add else end add end", "(S(37 0) 37)"),
-    ("proc.f add end begin call.f exec.f end", "(C37 37)"),
-    ("begin syscall.k repeat.2 add end end", "(K37 4773)"),
-];
+static TREES: [(&str, &str); 5] = pairs! {
+    "begin add while.true end add add while.true end end" => "((37 L0) (4773 L0))";
+    "begin while.true end while.true add end while.true add add end end" => "((L0 L37) L4773)";
+    "begin if.true add else end add end" => "(S(37 0) 37)";
+    "proc.f add end begin call.f exec.f end" => "(C37 37)";
+    "begin syscall.k repeat.2 add end end" => "(K37 4773)";
+};
 
 fn is_batch(batch: &[Felt; 8], numbers: &[u64]) -> bool {
     numbers
