@@ -6,9 +6,10 @@
 
 The tables of crates in docs/ARCHITECTURE.md and docs/CLAUSES.md have one row for each crate of crates.txt, in its order; the second
 cells of the former are what the crates say of themselves. Paths and links lead somewhere, and README.md names each page.
-examples/traces/schema.json is what docs/CONSTRAINTS.md says of columns, constraints and buses. The
-commands of README.md and docs/GUIDE.md print what is shown below them, and a table of which a cell is changed is refused, or still
-has evidence. These last two need the program that `rt ci` leaves, since nothing here builds it.
+examples/traces/schema.json is what docs/CONSTRAINTS.md says of columns, constraints and buses, and so are the tables of
+crates/show_text. The commands of README.md, docs/GUIDE.md, docs/SHOW.md and the tutorials print what is shown below them, and a table of
+which a cell is changed is refused, or still has evidence. These last two need the programs that `rt ci` leaves, since nothing here builds
+them. Sections of a page that build something with cargo are passed over where there is no cargo.
 """
 from __future__ import annotations
 
@@ -28,15 +29,19 @@ from dataclasses import dataclass
 from pathlib import Path
 
 import schema
+import words
 
 ROOT = Path(__file__).resolve().parent.parent
-PROGRAM = ROOT / "crates/miden_cli/out/miden_cli"
-CRATES, README, MAP, CLAUSES, GUIDE = "crates.txt", "README.md", "docs/ARCHITECTURE.md", "docs/CLAUSES.md", "docs/GUIDE.md"
+# What the pages call `./miden`, and what they make a link to.
+MIDEN, SHOW = ROOT / "crates/miden_cli/out/miden_cli", ROOT / "crates/miden_show/out/miden_show"
+CRATES, README, MAP, CLAUSES = "crates.txt", "README.md", "docs/ARCHITECTURE.md", "docs/CLAUSES.md"
+# The pages whose commands are run.
+RUN_PAGES = (README, "docs/GUIDE.md", "docs/SHOW.md", "docs/TUTORIAL-ASSEMBLERS.md", "docs/TUTORIAL-AUDITORS.md", "docs/TUTORIAL-CONSTRAINTS.md")
 
 CELL_END = re.compile(r"(?<!\\)\|")
 NAMED_PATH = re.compile(r"(?<![\w./-])(?:crates|docs|examples|bench|reference)/[\w./*-]*")
-# In a path: parts that stand for others, and the folder that a build leaves.
-NOT_MEANT = re.compile(r"\.\.|(?:^|/)(?:[A-Z_]+|out)(?:/|$)")
+# In a path: parts that stand for others, and the folders that builds leave.
+NOT_MEANT = re.compile(r"\.\.|(?:^|/)(?:[A-Z_]+|out|target)(?:/|$)")
 LINK_TARGET = re.compile(r"\]\((?![a-z]+:|#)([^()\s#]+)(?:#[^()\s]*)?\)")
 COMMAND = re.compile(r"( {4}|)\$ (\S.*)")
 
@@ -46,6 +51,8 @@ NOT_RUN = (
     "git",  # fetches from elsewhere
     "cd",  # leads to the top of the repository, where each page's commands begin
 )
+# The first words of commands that build something with cargo.
+BUILD_WITH_CARGO = ("cargo", "bench/differential.sh")
 SECONDS_FOR_A_COMMAND = 120
 NO_END = f"does not end in {SECONDS_FOR_A_COMMAND} seconds, or ends the shell; no command below it was run"
 END_OF_COMMAND = "\n-- the command has ended --\n"
@@ -146,24 +153,28 @@ class Command:
     line: int
     text: str
     shown: str = ""
+    section: str = ""
 
 
 def commands_of(page: str) -> list[Command]:
     """The commands of a page that are run, from indented and fenced blocks; a backslash at the end of a line goes on with one."""
     commands: list[Command] = []
-    in_block, margin = False, ""
+    in_block, margin, section = False, "", ""
     for number, line in enumerate(lines_of(page), 1):
+        section = line if line.startswith("#") else section
         begun = COMMAND.match(line)
         if begun:
             in_block, margin = True, begun[1]
-            commands.append(Command(number, begun[2]))
+            commands.append(Command(number, begun[2], section=section))
         elif line.startswith("```") or (line and not line.startswith(margin)):
             in_block = False
         elif in_block and commands[-1].text.endswith("\\"):
             commands[-1].text += f"\n{line}"
         elif in_block:
             commands[-1].shown += line[len(margin):] + "\n"
-    return [command for command in commands if command.text.split()[0] not in NOT_RUN]
+    with_cargo = {command.section for command in commands if command.text.split()[0] in BUILD_WITH_CARGO}
+    passed_over = set() if shutil.which("cargo") else with_cargo
+    return [command for command in commands if command.text.split()[0] not in NOT_RUN and command.section not in passed_over]
 
 
 def agrees(said: str, shown: str) -> bool:
@@ -196,10 +207,12 @@ def answers(commands: list[Command], folder: str) -> Iterator[str | None]:
 
 
 def command_findings(page: str, commands: list[Command]) -> Iterator[str]:
-    """Commands of a page that say something else than is shown, where examples and program are as at the top of the repository."""
+    """Commands of a page that say something else than is shown, in a folder that looks like the top of the repository."""
     with tempfile.TemporaryDirectory() as folder:
         shutil.copytree(ROOT / "examples", Path(folder, "examples"))
-        Path(folder, "miden").symlink_to(PROGRAM)
+        for name in ("bench", "crates", "docs", "reference"):
+            Path(folder, name).symlink_to(ROOT / name)
+        Path(folder, "miden").symlink_to(MIDEN)
         for said, command in zip(answers(commands, folder), commands):
             if said is None:
                 yield at(page, command.line, f"`{command.text}` {NO_END}")
@@ -217,9 +230,9 @@ def forging_findings() -> Iterator[str]:
     return command_findings(FORGER, [run, check, forged])
 
 
-def is_built() -> bool:
-    """Whether the program is there and no source is newer, which is what the script `miden` asks before it builds."""
-    built = PROGRAM.stat().st_mtime_ns if os.access(PROGRAM, os.X_OK) else 0
+def is_built(program: Path) -> bool:
+    """Whether a program is there and no source is newer, which is what the script `miden` asks before it builds."""
+    built = program.stat().st_mtime_ns if os.access(program, os.X_OK) else 0
     files = [ROOT / CRATES, *(path for path in ROOT.glob("crates/**/*") if "out" not in path.relative_to(ROOT).parts)]
     return all(file.stat().st_mtime_ns <= built for file in files if file.suffix in (".rt", ".antt") or file.name == CRATES)
 
@@ -232,20 +245,22 @@ def main() -> int:
     if sys.argv[1:]:
         (ROOT / MAP).write_text("".join(f"{line}\n" for line in map_as_said(crates)), encoding="utf-8")
         schema.write()
+        words.write()
         return 0
     pages = sorted(f"docs/{page.name}" for page in (ROOT / "docs").glob("*.md"))
     findings = [*table_findings(MAP, crates), *cell_findings(crates), *table_findings(CLAUSES, crates)]
     findings += [at(page, 1, f"{README} does not name this page") for page in pages if page not in "\n".join(lines_of(README))]
     findings += [finding for page in [README, *pages] for finding in path_findings(page)]
     findings += schema.schema_findings()
+    findings += words.words_findings()
     seen = f"{len(crates)} crates"
-    if is_built():
-        commands = {page: commands_of(page) for page in (README, GUIDE)}
+    if is_built(MIDEN) and is_built(SHOW):
+        commands = {page: commands_of(page) for page in RUN_PAGES}
         findings += [finding for page in commands for finding in command_findings(page, commands[page])]
         findings += forging_findings()
         seen = f"{seen}, {sum(map(len, commands.values()))} commands and {CELLS} forged cells"
     else:
-        print("pages: the program is not built, so no command was run")
+        print("pages: miden or miden_show is not built, so no command was run")
     print("\n".join(findings) or f"pages: {seen} are as written")
     return 1 if findings else 0
 

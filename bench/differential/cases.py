@@ -93,6 +93,9 @@ def programs(sides, choice, common):
     sides.compare("programs", with_kernel(["assemble", "params", "source"], made), files)
     limit = ["--limit", str(choice.choice([1, 10, choice.randrange(1, 300), 3000, 524287]))] if choice.randrange(3) == 0 else []
     answer = sides.compare("programs", with_kernel(RUN + limit, made), files)
+    if answer.status in (0, 4):
+        last = max(int(answer.said.split()[1]) + choice.choice([-1, 0, 1]), 1)
+        sides.compare("programs", with_kernel([*RUN, "--limit", str(last)], made), files)
     if answer.status != 0:
         return
     files |= {"table": answer.files["table"], "statement": answer.files["statement"]}
@@ -164,8 +167,8 @@ def cells(sides, choice, common):
     made, files = honest_run(sides, "forged cells", choice, common)
     for _ in range(2 * CHANGES if files else 0):
         forged = files["table"]
-        for _ in range(choice.choice([1, 1, 1, 2])):
-            change = choice.choice([damage.cell] * 6 + [damage.rows, damage.operation, damage.operation])
+        for _ in range(choice.choice([1, 1, 1, 2, 3])):
+            change = choice.choice([damage.cell] * 6 + [damage.by_buses] * 3 + [damage.rows, damage.operation, damage.operation])
             forged = change(choice, forged)
         more = with_kernel(["--source", "source"], made) if choice.randrange(4) == 0 else ["--pieces", choice.choice(["1", "3"])]
         sides.compare("forged cells", CHECK + more, {**files, "table": forged})

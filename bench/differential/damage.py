@@ -151,6 +151,27 @@ def cell(choice, content):
     return content[:place] + struct.pack("<Q", new if new != old else (old + 2) % P) + content[place + 8:]
 
 
+# Of operations by their codes, the columns that no constraint of their rows fixes, but a bus: children and digests, the repeats of a loop,
+# places of permutations, words of memory.
+BY_BUSES = {
+    29: [51], 7: [55, 56, 57], 47: [55, 56, 57], 70: range(16, 24), 71: range(16, 24), 72: [16, 51, 51], 75: range(16, 20), 76: range(16, 24),
+    77: range(16, 24),
+}
+
+
+def by_buses(choice, content):
+    """The bytes of a table file with another element in a cell that only a bus fixes, if there is one."""
+    starts = [HEAD + 520 * row for row in range(counts_in(content)[0])]
+    codes = [(start, sum(bit << j for j, bit in enumerate(struct.unpack_from("<7Q", content, start + 72)))) for start in starts]
+    held = [(start, code) for start, code in codes if code in BY_BUSES]
+    if not held:
+        return cell(choice, content)
+    kind = choice.choice(sorted({code for _, code in held}))
+    place = choice.choice([start for start, code in held if code == kind]) + 8 * choice.choice(BY_BUSES[kind])
+    old = struct.unpack_from("<Q", content, place)[0]
+    return content[:place] + struct.pack("<Q", choice.choice([1 - old if old < 2 else 0, (old + 1) % P, element(choice)])) + content[place + 8:]
+
+
 def operation(choice, content):
     """The bytes of a table file with another operation in a row of the main table."""
     start = HEAD + 520 * choice.randrange(counts_in(content)[0])

@@ -1,8 +1,9 @@
 """Compares two programs on random cases, for `differential.sh`:
 
-    main.py PROGRAM OTHER TOP CASES SEED
+    main.py PROGRAM OTHER TOOLS TOP CASES SEED [KIND ..]
 
-TOP is the top of the repository, whose examples have the parameters and a small trace.
+TOOLS is a folder with the tool `collisions`, if there is one. TOP is the top of the repository, whose examples have the parameters and a
+small trace. The kinds are those of cases.py by their names, all where none is named.
 """
 import os
 import random
@@ -24,11 +25,20 @@ def common_files(top):
     }
 
 
+def order_of(names):
+    """The kinds of these names, or all, each as often as it has cases."""
+    known = [kind.__name__ for kind, _ in KINDS]
+    if not set(names) <= set(known):
+        print(f"the kinds of cases are {' '.join(known)}", file=sys.stderr)
+        sys.exit(2)
+    return [kind for kind, count in KINDS if not names or kind.__name__ in names for _ in range(count)]
+
+
 def main():
-    program, other, top, cases, seed = sys.argv[1:]
-    sides = Sides({"miden": os.path.abspath(program), "reference": os.path.abspath(other)})
+    program, other, tools, top, cases, seed, *names = sys.argv[1:]
+    order = order_of(names)
+    sides = Sides({"miden": os.path.abspath(program), "other": os.path.abspath(other)}, tools)
     common = common_files(top)
-    order = [kind for kind, count in KINDS for _ in range(count)]
     random.Random(seed).shuffle(order)
     for number in range(int(cases)):
         kind = order[number % len(order)]

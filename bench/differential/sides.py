@@ -29,8 +29,9 @@ class Answer:
 class Sides:
     """The two programs, and what they were compared on."""
 
-    def __init__(self, programs):
+    def __init__(self, programs, tools):
         self.programs = programs
+        self.tools = tools
         self.work = tempfile.mkdtemp(prefix="differential.")
         self.answers = collections.defaultdict(collections.Counter)
         self.cases = collections.Counter()
@@ -52,8 +53,10 @@ class Sides:
         return answers[0]
 
     def made(self, words, files):
-        """The files of a folder in which a tool beside the second program has made some of its own, if it could."""
-        tool = os.path.join(os.path.dirname(list(self.programs.values())[1]), words[0])
+        """The files of a folder in which a tool has made some of its own, if it is there and could."""
+        tool = os.path.join(self.tools, words[0])
+        if not os.path.exists(tool):
+            return None
         folder = os.path.join(self.work, "made")
         prepare(folder, files)
         status, _, _ = end(start(tool, [word.encode() for word in words[1:]], folder))
