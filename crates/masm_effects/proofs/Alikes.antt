@@ -9,9 +9,6 @@ use Rattle.masm_effects.specs.Effects.{listed}
 pub record Alike (xs ys : List ℕ) : Type 0 where
   pub at : (k : ℕ) → slice_index xs k ≡ slice_index ys k
 
-pub alike-itself : (xs : List ℕ) → Alike xs xs
-alike-itself xs = record { at = λ k. refl }
-
 pub alike-along : (xs ys zs : List ℕ) → Alike xs ys → Alike ys zs → Alike xs zs
 alike-along xs ys zs a b = record { at = λ k. a.at k ∙ b.at k }
 

@@ -5,10 +5,10 @@ pub mod Running
 pub mod Meeting
 pub mod Quiets
 pub mod Tables
-pub mod Moves
 pub mod Tests
-pub mod Choices
 pub mod Pushes
+pub mod Ways
+pub mod Choices
 pub mod Firsts
 pub mod Law
 pub mod Fields
@@ -18,6 +18,5 @@ pub mod Exponents
 pub mod Powers
 pub mod Words32
 pub mod Bits32
-pub mod Memory
 pub mod Readings
 pub mod SpanLemmas

@@ -63,7 +63,7 @@ stack-is stack old leaves known takes deep small is alike depth =
     (alike-along _ _ _ (rw joined at alike) (alike-along _ _ _ below (alike-back _ _ (alike-filled_up (leaves ++ drop takes old)))))
 
 -- a state of these parts
-abbrev state_of : ℕ → ℕ → ℕ → Bool → List ℕ → ℕ → List ℕ → WordMap → List ℕ → State
+abbrev pub state_of : ℕ → ℕ → ℕ → Bool → List ℕ → ℕ → List ℕ → WordMap → List ℕ → State
 state_of clock context fmp in_syscall digest nesting stack memory tape = record {
   core = record {
     clock = clock;
@@ -78,28 +78,13 @@ state_of clock context fmp in_syscall digest nesting stack memory tape = record 
   tape = tape;
 }
 
-same-state : (clock clock' context context' fmp fmp' : ℕ) (in_syscall in_syscall' : Bool) (digest digest' : List ℕ) (nesting nesting' : ℕ)
-    (stack stack' : List ℕ) (memory memory' : WordMap) (tape tape' : List ℕ)
+pub same-state : {clock clock' context context' fmp fmp' : ℕ} {in_syscall in_syscall' : Bool} {digest digest' : List ℕ} {nesting nesting' : ℕ}
+    {stack stack' : List ℕ} {memory memory' : WordMap} {tape tape' : List ℕ}
     → clock ≡ clock' → context ≡ context' → fmp ≡ fmp' → in_syscall ≡ in_syscall' → digest ≡ digest' → nesting ≡ nesting'
     → stack ≡ stack' → memory ≡ memory' → tape ≡ tape'
     → state_of clock context fmp in_syscall digest nesting stack memory tape
     ≡ state_of clock' context' fmp' in_syscall' digest' nesting' stack' memory' tape'
-same-state _ _ _ _ _ _ _ _ _ _ _ _ _ _ _ _ _ _ e1 e2 e3 e4 e5 e6 e7 e8 e9 = cc
-
-target-is : (constants : List ℕ) (items : List Item) (s t : State) (e : Effect) → 16 ≤ length s.core.stack → e.takes ≤ 16
-    → Left e s (last constants s.core items (window s)) → WindowShows s.core (drop 24 s.core.stack) (last constants s.core items (window s)) t
-    → t ≡ affected e (length items) s
-target-is constants items s t e deep small left shows =
-    let stack : t.core.stack ≡ filled_up (e.leaves ++ drop e.takes s.core.stack) =
-    stack-is t.core.stack s.core.stack e.leaves (last constants s.core items (window s)).cells e.takes deep small left.cells
-    shows.stack shows.depth in
-    let turn : (last constants s.core items (window s)).turn ≡ length items = last-turn constants s.core items (window s) ∙ add-zero (length items) in
-    let clock : t.core.clock ≡ s.core.clock + length items = shows.clock ∙ ap (λ n. s.core.clock + n) turn in
-    let memory : t.core.memory ≡ memory_with s.core.memory s.core.context e.address e.word = shows.memory ∙ left.memory in
-    let tape : t.tape ≡ drop e.advice s.tape = shows.tape ∙ left.tape in
-    let fmp : t.core.fmp ≡ s.core.fmp = shows.fmp ∙ left.fmp in
-    same-state _ _ _ _ _ _ _ _ _ _ _ _ _ _ _ _ _ _
-    clock shows.context fmp shows.in_syscall shows.digest shows.nesting stack memory tape
+same-state e1 e2 e3 e4 e5 e6 e7 e8 e9 = cc
 
 answers : (o : Option Cause) (b : Bool) (r : Result State Cause) (c : Core) (rest : List ℕ) (w : Window) (target : State)
     → is_some o ≡ b → Does o r c rest w → (b ≡ false → (t : State) → WindowShows c rest w t → t ≡ target) → TrapsOrLeaves b r target
@@ -108,11 +93,22 @@ answers (Some cause) true r c rest w target e is same = (cause, is)
 answers None true r c rest w target e does same = cc
 answers (Some cause) false r c rest w target e does same = cc
 
-pub has-effect : (constants : List ℕ) (items : List Item) (s : State) (e : Effect) → length constants ≡ number_of_constants → IsSized s.core
-    → Meets constants items s e → HasEffect constants items s e
-unfolding HasEffect
-has-effect constants items s e count sized meets =
-    answers (trap constants s.core items (window s)) e.traps (run constants items s) s.core (drop 24 s.core.stack)
-    (last constants s.core items (window s)) (affected e (length items) s) meets.traps
-    (run-does constants s.core (drop 24 s.core.stack) items (window s) s count sized.stack meets.room sized (shows-start s sized.stack))
-    (λ free t shows. target-is constants items s t e sized.stack meets.small (meets.does free) shows)
+module _ (constants : List ℕ) (items : List Item) (s : State) (e : Effect) where
+  abbrev end : Window
+  end = last constants s.core items (window s)
+
+  target-is : (t : State) → 16 ≤ length s.core.stack → e.takes ≤ 16 → Left e s end → WindowShows s.core (drop 24 s.core.stack) end t
+      → t ≡ affected e (length items) s
+  target-is t deep small left shows =
+      let turn : end.turn ≡ length items = last-turn constants s.core items (window s) ∙ add-zero (length items) in
+      same-state (shows.clock ∙ ap (λ n. s.core.clock + n) turn) shows.context (shows.fmp ∙ left.fmp) shows.in_syscall shows.digest shows.nesting
+      (stack-is t.core.stack s.core.stack e.leaves end.cells e.takes deep small left.cells shows.stack shows.depth)
+      (shows.memory ∙ left.memory) (shows.tape ∙ left.tape)
+
+  pub has-effect : length constants ≡ number_of_constants → IsSized s.core → Meets constants items s e → HasEffect constants items s e
+  unfolding HasEffect
+  has-effect count sized meets =
+      answers (trap constants s.core items (window s)) e.traps (run constants items s) s.core (drop 24 s.core.stack) end
+      (affected e (length items) s) meets.traps
+      (run-does constants s.core (drop 24 s.core.stack) items (window s) s count sized.stack meets.room sized (shows-start s sized.stack))
+      (λ free t shows. target-is t sized.stack meets.small (meets.does free) shows)

@@ -30,14 +30,6 @@ agrees-on false mark n s r part later h = tt
 agrees-on true mark n s (Err cause) part later h = refl
 agrees-on true mark n s (Ok t) part later h = agrees-logged (event_of mark n s ∷ []) (part t) (later t) (h t)
 
-pub operations-agree : (constants : List ℕ) (kernel : List (List ℕ)) (limit : ℕ) (items : List Item) (s : State)
-    → EndsLike (operations constants kernel limit items s) (run constants items s)
-unfolding run seq skip taking
-operations-agree constants kernel limit [] s = refl
-operations-agree constants kernel limit (item ∷ items) s =
-    agrees-on (nat_lt s.core.clock limit) (Do item) (advice_of item.op) s (step constants item s) (operations constants kernel limit items)
-    (run constants items) (λ t. operations-agree constants kernel limit items t)
-
 abbrev IsLate : Outcome → Type 0
 IsLate (Done t events) = ⊥
 IsLate (Trap clock cause) = ⊥
@@ -57,15 +49,6 @@ within-on false mark n s r part e h f = absurd (let no : false ≡ true = e in c
 within-on true mark n s (Err cause) part e h f = is-late (Trap s.core.clock cause) f
 within-on true mark n s (Ok t) part e h f = h t refl (cut-logged (event_of mark n s ∷ []) (part t) f)
 
-pub operations-within : (constants : List ℕ) (kernel : List (List ℕ)) (limit : ℕ) (items : List Item) (s : State)
-    → s.core.clock + length items ≤ limit → IsCutOff (operations constants kernel limit items s) → ⊥
-unfolding seq skip taking
-operations-within constants kernel limit [] s h f = is-late (Done s []) f
-operations-within constants kernel limit (item ∷ items) s h f =
-    within-on (nat_lt s.core.clock limit) (Do item) (advice_of item.op) s (step constants item s) (operations constants kernel limit items)
-    (lt-ltb s.core.clock limit (omega arith))
-    (λ t is. operations-within constants kernel limit items t (let clock = step-clock constants item s t is in omega arith)) f
-
 comes-to : (traps : Bool) (o : Outcome) (r : Result State Cause) (target : State) → EndsLike o r → (IsCutOff o → ⊥) → TrapsOrLeaves traps r target
     → TrapsOrIsDone traps o target
 comes-to true (Done t events) r target agrees within (cause, is) = absurd (let no : Ok t ≡ Err cause = sym agrees ∙ is in cc)
@@ -77,15 +60,29 @@ comes-to false (Done t events) r target agrees within answers =
 comes-to false (Trap clock cause) r target agrees within answers = absurd (let no : Err cause ≡ Ok target = sym agrees ∙ answers in cc)
 comes-to false (OutOfCycles t events) r target agrees within answers = absurd (within (cut_off t events))
 
-pub operations-effect : (constants : List ℕ) (kernel : List (List ℕ)) (limit locals : ℕ) (s : State) → length constants ≡ number_of_constants → IsWellFormed s
-    → (name : Name) (numbers : List ℕ) → is_in_form name numbers ≡ true → s.core.clock + length (expansion name numbers locals) ≤ limit
-    → TrapsOrIsDone (instr_effect constants name numbers locals s).traps (operations constants kernel limit (expansion name numbers locals) s)
-    (affected (instr_effect constants name numbers locals s) (length (expansion name numbers locals)) s)
-unfolding HasEffect
-operations-effect constants kernel limit locals s count well name numbers form left =
-    comes-to (instr_effect constants name numbers locals s).traps (operations constants kernel limit (expansion name numbers locals) s)
-    (run constants (expansion name numbers locals) s)
-    (affected (instr_effect constants name numbers locals s) (length (expansion name numbers locals)) s)
-    (operations-agree constants kernel limit (expansion name numbers locals) s)
-    (operations-within constants kernel limit (expansion name numbers locals) s left)
-    (instruction-effects constants locals s count well name numbers form)
+module _ (constants : List ℕ) (kernel : List (List ℕ)) (limit : ℕ) where
+  pub operations-agree : (items : List Item) (s : State) → EndsLike (operations constants kernel limit items s) (run constants items s)
+  unfolding run seq skip taking
+  operations-agree [] s = refl
+  operations-agree (item ∷ items) s =
+      agrees-on (nat_lt s.core.clock limit) (Do item) (advice_of item.op) s (step constants item s) (operations constants kernel limit items)
+      (run constants items) (operations-agree items)
+
+  pub operations-within : (items : List Item) (s : State) → s.core.clock + length items ≤ limit
+      → IsCutOff (operations constants kernel limit items s) → ⊥
+  unfolding seq skip taking
+  operations-within [] s h f = is-late (Done s []) f
+  operations-within (item ∷ items) s h f =
+      within-on (nat_lt s.core.clock limit) (Do item) (advice_of item.op) s (step constants item s) (operations constants kernel limit items)
+      (lt-ltb s.core.clock limit (omega arith))
+      (λ t is. operations-within items t (let clock = step-clock constants item s t is in omega arith)) f
+
+  pub operations-effect : (locals : ℕ) (s : State) → length constants ≡ number_of_constants → IsWellFormed s
+      → (name : Name) (numbers : List ℕ) → is_in_form name numbers ≡ true → s.core.clock + length (expansion name numbers locals) ≤ limit
+      → TrapsOrIsDone (instr_effect constants name numbers locals s).traps (operations constants kernel limit (expansion name numbers locals) s)
+      (affected (instr_effect constants name numbers locals s) (length (expansion name numbers locals)) s)
+  unfolding HasEffect
+  operations-effect locals s count well name numbers form left =
+      let items : List Item = expansion name numbers locals in
+      comes-to _ (operations constants kernel limit items s) (run constants items s) _ (operations-agree items s) (operations-within items s left)
+      (instruction-effects constants locals s count well name numbers form)
