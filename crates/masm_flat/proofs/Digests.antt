@@ -1,6 +1,6 @@
 -- The digest of a block's tree: its elements, and how many they are.
 use Rattle.masm_flat.proofs.Words.{◌≡◌, ℕ, zero, suc, ◌<◌, List, [], ◌∷◌, ◌++◌, length, take, drop, refl, ◌∙◌, arith, length-map, All-from_recursion, prime}
-use Rattle.masm_flat.proofs.Words.{AreElements, lit, Block, Dyn, block_digest, digest_items}
+use Rattle.masm_flat.proofs.Words.{AreElements, lit, Block, block_digest, digest_items}
 use Rattle.vm_field.specs.Limits.{number_of_constants}
 use Rattle.vm_field.specs.Machine.{IsWord}
 use Rattle.vm_field.specs.Permutation.{round, rounds, permuted}
@@ -8,7 +8,7 @@ use Rattle.vm_field.specs.Sponge.{absorbed, begun, hashed, sponge_after, squeeze
 use Rattle.vm_field.proofs.Elements.{elements-drop, elements-take}
 use Rattle.vm_field.proofs.PermutationLemmas.{elements-round}
 use Rattle.rpo_hash.proofs.Digests.{hashed-IsWord}
-use Rattle.masm_flat.specs.Blocks.{Span, Join, Split, Loop, Call, Syscall}
+use Rattle.masm_flat.specs.Blocks.{Span}
 
 -- whatever the constants are
 rounds-elements : (n : ℕ) (constants x : List ℕ) → AreElements (rounds (suc n) constants x)
@@ -45,21 +45,11 @@ hashed-word constants domain (block ∷ blocks) count = hashed-IsWord constants 
 
 pub block-elements : (constants : List ℕ) (b : Block) → AreElements (block_digest constants b)
 block-elements constants (Span items) = hashed-elements constants _ _
-block-elements constants (Join a b) = hashed-elements constants _ _
-block-elements constants (Split a b) = hashed-elements constants _ _
-block-elements constants (Loop a) = hashed-elements constants _ _
-block-elements constants (Call a) = hashed-elements constants _ _
-block-elements constants (Syscall a) = hashed-elements constants _ _
-block-elements constants (Dyn targets) = hashed-elements constants _ _
+block-elements constants other = hashed-elements constants _ _
 
 block-word : (constants : List ℕ) (b : Block) → length constants ≡ number_of_constants → IsWord (block_digest constants b)
 block-word constants (Span items) count = hashed-word constants _ _ count
-block-word constants (Join a b) count = hashed-word constants _ _ count
-block-word constants (Split a b) count = hashed-word constants _ _ count
-block-word constants (Loop a) count = hashed-word constants _ _ count
-block-word constants (Call a) count = hashed-word constants _ _ count
-block-word constants (Syscall a) count = hashed-word constants _ _ count
-block-word constants (Dyn targets) count = hashed-word constants _ _ count
+block-word constants other count = hashed-word constants _ _ count
 
 -- a procref is four operations
 pub four-items : (constants : List ℕ) (b : Block) → length constants ≡ number_of_constants → length (digest_items (block_digest constants b)) ≡ 4

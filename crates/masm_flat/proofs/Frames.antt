@@ -11,5 +11,3 @@ pub with_some : {A : Type 0} (n : ℕ) (pieces : List (Piece A)) → 0 < n
     ≡ Operation (lit n) ∷ Operation (plain_item FmpUpdate) ∷ (pieces ++ Operation (lit (prime - n)) ∷ Operation (plain_item FmpUpdate) ∷ [])
 with_some zero pieces h = absurd (omega arith)
 with_some (suc n) pieces h = refl
-
-pub ruleset frames = (with_none, with_some)

@@ -1,5 +1,5 @@
 -- What is found by a name, and the place of the name.
-use Rattle.masm_flat.proofs.Words.{◌≡◌, ℕ, Bor, length, ◌+◌, cond, List, [], ◌∷◌, map, Option, Some, None, inl, inr, refl, ap, ◌∙◌, sym, bytes_eq, add-one}
+use Rattle.masm_flat.proofs.Words.{◌≡◌, ℕ, Bor, length, ◌+◌, List, [], ◌∷◌, map, Option, Some, None, inl, inr, refl, ap, ◌∙◌, sym, bytes_eq, add-one}
 use Rattle.masm_flat.proofs.Words.{cases_Bool, slice_get_past, slice_get_read, find, option_map, option_copied, place_in}
 use Rattle.std.specs.Prelude.{option_and_then, slice_get}
 use Rattle.std.specs.Slice.{IsItemAt}
@@ -14,14 +14,8 @@ find_placed : {X : Type 0} (name : X → List ℕ) (xs : List X) (text : List �
     → find (λ x. bytes_eq (name x) text) xs ≡ option_and_then (slice_get xs) (place_in (map name xs) text)
 find_placed name [] text = refl
 find_placed name (x ∷ xs) text = elim (cases_Bool (bytes_eq (name x) text)) [
-  | inl same ↦
-      ap (λ b. cond b (Some x) (find (λ y. bytes_eq (name y) text) xs)) same
-      ∙ sym (ap (λ b. option_and_then (slice_get (x ∷ xs)) (cond b (Some 0) (option_map (λ i. i + 1) (place_in (map name xs) text)))) same)
-  | inr other ↦
-      ap (λ b. cond b (Some x) (find (λ y. bytes_eq (name y) text) xs)) other
-      ∙ (find_placed name xs text
-      ∙ (sym (behind x xs (place_in (map name xs) text))
-      ∙ sym (ap (λ b. option_and_then (slice_get (x ∷ xs)) (cond b (Some 0) (option_map (λ i. i + 1) (place_in (map name xs) text)))) other)))
+  | inl same ↦ rw same refl
+  | inr other ↦ rw other (find_placed name xs text ∙ sym (behind x xs (place_in (map name xs) text)))
 ]
 
 -- what is found, once the place of the name is known

@@ -1,12 +1,12 @@
 -- The words that the proofs of this crate have in common.
 pub use Rattle.std.proofs.Common.{Bool, Bor, Err, Global, List, None, Ok, Option, Result, Some, Vec, [], add-one, ap, append_assoc, ap₂, arith, bytes_eq}
-pub use Rattle.std.proofs.Common.{cond, drop, false, get_or, inl, inr, is_some, length, map, refl, rules, set, subst, suc, sym, take, true, vec_len, zero, ℕ}
+pub use Rattle.std.proofs.Common.{drop, false, get_or, inl, inr, is_some, length, map, refl, rules, set, subst, suc, sym, take, true, vec_len, zero, ℕ}
 pub use Rattle.std.proofs.Common.{◌*◌, ◌++◌, ◌+◌, ◌-◌, ◌<◌, ◌||◌, ◌∙◌, ◌∷◌, ◌≡◌, ◌≢◌, ◌≤◌}
 pub use Rattle.std.proofs.lemmas.Bool.{cases_Bool, cases_lt, false≢true}
 pub use Rattle.std.proofs.lemmas.Bool.Decides.{eqb_tells, nat_tests}
 pub use Rattle.std.proofs.lemmas.List.{at_drop_all, drop_more, get_or-set_other, get_or-set_same, get_or_past, get_or_read, length-map, length-set}
 pub use Rattle.std.proofs.lemmas.List.{length-take-le, map_more, nil_from_length}
-pub use Rattle.std.proofs.lemmas.List.Elements.{All-from_recursion, Contains-append_left, Contains-append_right}
+pub use Rattle.std.proofs.lemmas.List.Elements.{All-from_recursion, Contains-append_right}
 pub use Rattle.std.proofs.lemmas.Option.{slice_get_past, slice_get_read}
 pub use Rattle.std.specs.List.{Contains, cons_option, find}
 pub use Rattle.std.specs.Option.{option_copied, option_map}

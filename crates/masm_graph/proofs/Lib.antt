@@ -1,3 +1,4 @@
+pub mod Collecting
 pub mod DynexecLemmas
 pub mod OwnLemmas
 pub mod SettlingLemmas

@@ -1,7 +1,8 @@
 -- The places of the source's own procedures to which the uses of a row lead.
-use Rattle.std.proofs.Common.{◌≡◌, ℕ, zero, suc, Bool, true, false, Option, Some, None, List, [], ◌∷◌, map, get_or, ◌⊎◌, inl, inr, refl, sym, ap, subst, ◌∙◌, unwrap_or, arith}
+use Rattle.std.proofs.Common.{◌≡◌, ℕ, Bool, true, false, Option, Some, None, List, [], ◌∷◌, map, get_or, inl, inr, refl, sym, ap, ap₂, subst, ◌∙◌, unwrap_or, arith}
+use Rattle.std.proofs.Math.ListN.{get_or-map}
 use Rattle.std.proofs.lemmas.List.Elements.{Contains-append_right}
-use Rattle.std.specs.List.{Contains, cons_option}
+use Rattle.std.specs.List.{Contains, cons_option, filter_map}
 use Rattle.graphs.specs.Graph.{Edge}
 use Rattle.masm_graph.specs.declared.links.Link.{Link}
 use Rattle.masm_graph.specs.declared.links.Target.{Target}
@@ -10,154 +11,89 @@ use Rattle.masm_graph.specs.Links.{own_place, own_places, place_if, places_with}
 use Rattle.masm_graph.specs.Users.{HasOwn, UsesProcedure}
 use Rattle.masm_names.proofs.DoubleLemmas.{cons_cases, cons_here}
 
-cons_later : {X : Type 0} (x : X) (xs : List X) (y : X) → Contains xs y → Contains (x ∷ xs) y
-cons_later x xs y h = Contains-append_right (x ∷ []) xs y h
+-- What a list gives for some of its elements.
+module _ {X : Type 0} (f : X → Option ℕ) where
+  given_from : (xs : List X) (b : ℕ) → Contains (filter_map f xs) b → (x : X) × Contains xs x × (f x ≡ Some b)
+  given_from [] b h = absurd (omega (arith, h.1))
+  given_from (x ∷ xs) b h = by (f x) refl (λ k. let found = given_from xs b k in (found.0, Contains-append_right (x ∷ []) xs found.0 found.1, found.2)) h
+    where
+      by : (o : Option ℕ) → f x ≡ o → (Contains (filter_map f xs) b → (y : X) × Contains (x ∷ xs) y × (f y ≡ Some b))
+          → Contains (cons_option o (filter_map f xs)) b → (y : X) × Contains (x ∷ xs) y × (f y ≡ Some b)
+      by None is more k = more k
+      by (Some place) is more k = elim (cons_cases place (filter_map f xs) b k) [ inl same ↦ (x, cons_here x xs, is ∙ ap Some same) | inr later ↦ more later ]
 
--- the uses of one more
-own_here : (link : Link) (row : List Link) (b : ℕ) → link.target ≡ targets.Own b → HasOwn (link ∷ row) b
-own_here link row b leads = (0, link, omega arith, refl, leads)
+  given_in : (xs : List X) (x : X) (b : ℕ) → Contains xs x → f x ≡ Some b → Contains (filter_map f xs) b
+  given_in [] x b has is = absurd (omega (arith, has.1))
+  given_in (y ∷ xs) x b has is = elim (cons_cases y xs x has) [
+    | inl same ↦ subst (λ o. Contains (cons_option o (filter_map f xs)) b) (sym (ap f same ∙ is)) (cons_here b (filter_map f xs))
+    | inr later ↦ more (f y) (given_in xs x b later is)
+  ]
+    where
+      more : (o : Option ℕ) → Contains (filter_map f xs) b → Contains (cons_option o (filter_map f xs)) b
+      more None k = k
+      more (Some place) k = Contains-append_right (place ∷ []) (filter_map f xs) b k
 
-own_later : (link : Link) (row : List Link) (b : ℕ) → HasOwn row b → HasOwn (link ∷ row) b
-own_later link row b (k, l, within, is, leads) =
-    let later = cons_later link row l (k, within, is) in (later.0, l, later.1, later.2, leads)
+abbrev led : Link → Option ℕ
+led link = own_place link.target
 
-own_cases : (link : Link) (row : List Link) (b : ℕ) → HasOwn (link ∷ row) b → (link.target ≡ targets.Own b) ⊎ HasOwn row b
-own_cases link row b (k, l, within, is, leads) = elim (cons_cases link row l (k, within, is)) [
-  | inl same ↦ inl (ap (λ x. x.target) same ∙ leads)
-  | inr later ↦ inr (later.0, l, later.1, later.2, leads)
-]
+abbrev led_with : Bool → Link → Option ℕ
+led_with wanted link = place_if wanted link.refers (led link)
+
+place_target : (t : Target) (q : ℕ) → own_place t ≡ Some q → t ≡ targets.Own q
+place_target (targets.Own place) q e = ap (λ o. targets.Own (unwrap_or o q)) e
+place_target other q e = cc
 
 -- the places of a row are those to which its uses lead
 pub places_own : (row : List Link) (b : ℕ) → Contains (own_places row) b → HasOwn row b
-places_own [] b h = absurd (omega (arith, h.1))
-places_own (link ∷ row) b h = by (λ later. own_later link row b (places_own row b later)) link.target refl h
-  where
-    by : (Contains (own_places row) b → HasOwn (link ∷ row) b) → (t : Target) → link.target ≡ t
-        → Contains (cons_option (own_place t) (own_places row)) b → HasOwn (link ∷ row) b
-    by tail (targets.Own place) is k = elim (cons_cases place (own_places row) b k) [
-      | inl same ↦ own_here link row b (is ∙ ap targets.Own same)
-      | inr later ↦ tail later
-    ]
-    by tail targets.Kernel is k = tail k
-    by tail targets.Unknown is k = tail k
-    by tail targets.NotInKernel is k = tail k
+places_own row b h = let found = given_from led row b h in (found.1.0, found.0, found.1.1, found.1.2, place_target found.0.target b found.2)
 
 pub own_in_places : (row : List Link) (b : ℕ) → HasOwn row b → Contains (own_places row) b
-own_in_places [] b h = absurd (omega (arith, h.2))
-own_in_places (link ∷ row) b h = elim (own_cases link row b h) [
-  | inl leads ↦ subst (λ t. Contains (cons_option (own_place t) (own_places row)) b) (sym leads) (cons_here b (own_places row))
-  | inr later ↦ by link.target (own_in_places row b later)
-]
-  where
-    by : (t : Target) → Contains (own_places row) b → Contains (cons_option (own_place t) (own_places row)) b
-    by (targets.Own place) k = cons_later place (own_places row) b k
-    by targets.Kernel k = k
-    by targets.Unknown k = k
-    by targets.NotInKernel k = k
-
-row_of_places : (rows : List (List Link)) (a : ℕ) → get_or (map own_places rows) a [] ≡ own_places (get_or rows a [])
-row_of_places [] a = refl
-row_of_places (row ∷ rows) zero = refl
-row_of_places (row ∷ rows) (suc a) = row_of_places rows a
+own_in_places row b h = given_in led row h.1 b (h.0, h.2, h.3) (ap own_place h.4)
 
 pub edge_goes : (rows : List (List Link)) (a b : ℕ) → Edge (map own_places rows) a b → UsesProcedure rows a b
-edge_goes rows a b h = places_own (get_or rows a []) b (subst (λ r. Contains r b) (row_of_places rows a) h)
+edge_goes rows a b h = places_own (get_or rows a []) b (subst (λ r. Contains r b) (get_or-map own_places rows a []) h)
 
 pub goes_edge : (rows : List (List Link)) (a b : ℕ) → UsesProcedure rows a b → Edge (map own_places rows) a b
-goes_edge rows a b h = subst (λ r. Contains r b) (sym (row_of_places rows a)) (own_in_places (get_or rows a []) b h)
+goes_edge rows a b h = subst (λ r. Contains r b) (sym (get_or-map own_places rows a [])) (own_in_places (get_or rows a []) b h)
 
--- those of the procrefs of a row, or of its other uses, are among them
-pub with_in_own : (wanted : Bool) (row : List Link) (b : ℕ) → Contains (places_with wanted row) b → Contains (own_places row) b
-with_in_own wanted [] b h = absurd (omega (arith, h.1))
-with_in_own wanted (link ∷ row) b h = by (λ k. with_in_own wanted row b k) wanted link.refers (own_place link.target) h
-  where
-    tail : (Contains (places_with wanted row) b → Contains (own_places row) b) → (o : Option ℕ) → Contains (places_with wanted row) b
-        → Contains (cons_option o (own_places row)) b
-    tail more None k = more k
-    tail more (Some place) k = cons_later place (own_places row) b (more k)
+if_wanted : (w r : Bool) (o : Option ℕ) (b : ℕ) → place_if w r o ≡ Some b → (r ≡ w) × (o ≡ Some b)
+if_wanted true true o b e = (refl, e)
+if_wanted false false o b e = (refl, e)
+if_wanted true false o b e = cc
+if_wanted false true o b e = cc
 
-    here : (Contains (places_with wanted row) b → Contains (own_places row) b) → (o : Option ℕ) → Contains (cons_option o (places_with wanted row)) b
-        → Contains (cons_option o (own_places row)) b
-    here more None k = more k
-    here more (Some place) k = elim (cons_cases place (places_with wanted row) b k) [
-      | inl same ↦ subst (λ q. Contains (place ∷ own_places row) q) same (cons_here place (own_places row))
-      | inr later ↦ cons_later place (own_places row) b (more later)
-    ]
-
-    by : (Contains (places_with wanted row) b → Contains (own_places row) b) → (w r : Bool) (o : Option ℕ)
-        → Contains (cons_option (place_if w r o) (places_with wanted row)) b → Contains (cons_option o (own_places row)) b
-    by more true true o k = here more o k
-    by more false false o k = here more o k
-    by more true false o k = tail more o k
-    by more false true o k = tail more o k
-
--- a use leads to a place among those of its kind
-pub own_in_with : (wanted : Bool) (row : List Link) (link : Link) (b : ℕ) → Contains row link → link.refers ≡ wanted → link.target ≡ targets.Own b
-    → Contains (places_with wanted row) b
-own_in_with wanted [] link b has kind leads = absurd (omega (arith, has.1))
-own_in_with wanted (first ∷ row) link b has kind leads = elim (cons_cases first row link has) [
-  | inl same ↦
-      let is_kind : first.refers ≡ wanted = ap (λ l. l.refers) same ∙ kind in
-      let is_place : own_place first.target ≡ Some b = ap (λ l. own_place l.target) same ∙ ap own_place leads in
-      subst (λ o. Contains (cons_option o (places_with wanted row)) b)
-      (sym (ap (place_if wanted first.refers) is_place ∙ (ap (λ r. place_if wanted r (Some b)) is_kind ∙ kept wanted)))
-      (cons_here b (places_with wanted row))
-  | inr later ↦ more (place_if wanted first.refers (own_place first.target)) (own_in_with wanted row link b later kind leads)
-]
-  where
-    kept : (w : Bool) → place_if w w (Some b) ≡ Some b
-    kept true = refl
-    kept false = refl
-
-    more : (o : Option ℕ) → Contains (places_with wanted row) b → Contains (cons_option o (places_with wanted row)) b
-    more None k = k
-    more (Some place) k = cons_later place (places_with wanted row) b k
-
-row_of_with : (wanted : Bool) (rows : List (List Link)) (a : ℕ) → get_or (map (places_with wanted) rows) a [] ≡ places_with wanted (get_or rows a [])
-row_of_with wanted [] a = refl
-row_of_with wanted (row ∷ rows) zero = refl
-row_of_with wanted (row ∷ rows) (suc a) = row_of_with wanted rows a
-
--- the edges of each kind are among all
-pub edge_with : (wanted : Bool) (rows : List (List Link)) (a b : ℕ) → Edge (map (places_with wanted) rows) a b → Edge (map own_places rows) a b
-edge_with wanted rows a b h =
-    subst (λ r. Contains r b) (sym (row_of_places rows a))
-    (with_in_own wanted (get_or rows a []) b (subst (λ r. Contains r b) (row_of_with wanted rows a) h))
-
-pub goes_with : (wanted : Bool) (rows : List (List Link)) (a b : ℕ) (link : Link) → Contains (get_or rows a []) link → link.refers ≡ wanted
-    → link.target ≡ targets.Own b → Edge (map (places_with wanted) rows) a b
-goes_with wanted rows a b link has kind leads =
-    subst (λ r. Contains r b) (sym (row_of_with wanted rows a)) (own_in_with wanted (get_or rows a []) link b has kind leads)
+wanted_if : (w : Bool) (o : Option ℕ) → place_if w w o ≡ o
+wanted_if true o = refl
+wanted_if false o = refl
 
 -- a use of one kind in a row leads to a place
 abbrev pub HasLink : Bool → List Link → ℕ → Type 0
 HasLink wanted row b = (link : Link) × Contains row link × (link.refers ≡ wanted) × (link.target ≡ targets.Own b)
 
-place_target : (t : Target) (q : ℕ) → own_place t ≡ Some q → t ≡ targets.Own q
-place_target (targets.Own place) q e = ap (λ o. targets.Own (unwrap_or o q)) e
-place_target targets.Kernel q e = cc
-place_target targets.Unknown q e = cc
-place_target targets.NotInKernel q e = cc
-
 -- the places of the uses of one kind are those to which they lead
 pub with_link : (wanted : Bool) (row : List Link) (b : ℕ) → Contains (places_with wanted row) b → HasLink wanted row b
-with_link wanted [] b h = absurd (omega (arith, h.1))
-with_link wanted (link ∷ row) b h =
-    by (λ k. let found = with_link wanted row b k in (found.0, cons_later link row found.0 found.1, found.2, found.3)) wanted link.refers
-    (own_place link.target) refl refl refl h
-  where
-    here : (Contains (places_with wanted row) b → HasLink wanted (link ∷ row) b) → (place : ℕ) → link.refers ≡ wanted
-        → own_place link.target ≡ Some place → Contains (place ∷ places_with wanted row) b → HasLink wanted (link ∷ row) b
-    here tail place kind leads k = elim (cons_cases place (places_with wanted row) b k) [
-      | inl same ↦ (link, cons_here link row, kind, place_target link.target b (leads ∙ ap Some same))
-      | inr later ↦ tail later
-    ]
+with_link wanted row b h =
+    let found = given_from (led_with wanted) row b h in
+    let is = if_wanted wanted found.0.refers (led found.0) b found.2 in
+    (found.0, found.1, is.0, place_target found.0.target b is.1)
 
-    by : (Contains (places_with wanted row) b → HasLink wanted (link ∷ row) b) → (w r : Bool) (o : Option ℕ) → wanted ≡ w → link.refers ≡ r
-        → own_place link.target ≡ o → Contains (cons_option (place_if w r o) (places_with wanted row)) b → HasLink wanted (link ∷ row) b
-    by tail true true (Some place) is_w is_r leads k = here tail place (is_r ∙ sym is_w) leads k
-    by tail false false (Some place) is_w is_r leads k = here tail place (is_r ∙ sym is_w) leads k
-    by tail true true None is_w is_r leads k = tail k
-    by tail false false None is_w is_r leads k = tail k
-    by tail true false o is_w is_r leads k = tail k
-    by tail false true o is_w is_r leads k = tail k
+-- a use leads to a place among those of its kind
+pub own_in_with : (wanted : Bool) (row : List Link) (link : Link) (b : ℕ) → Contains row link → link.refers ≡ wanted → link.target ≡ targets.Own b
+    → Contains (places_with wanted row) b
+own_in_with wanted row link b has kind leads =
+    given_in (led_with wanted) row link b has (ap₂ (λ r t. place_if wanted r (own_place t)) kind leads ∙ wanted_if wanted (Some b))
+
+-- those of the procrefs of a row, or of its other uses, are among them
+pub with_in_own : (wanted : Bool) (row : List Link) (b : ℕ) → Contains (places_with wanted row) b → Contains (own_places row) b
+with_in_own wanted row b h = let found = with_link wanted row b h in given_in led row found.0 b found.1 (ap own_place found.3)
+
+-- the edges of each kind are among all
+pub edge_with : (wanted : Bool) (rows : List (List Link)) (a b : ℕ) → Edge (map (places_with wanted) rows) a b → Edge (map own_places rows) a b
+edge_with wanted rows a b h =
+    subst (λ r. Contains r b) (sym (get_or-map own_places rows a []))
+    (with_in_own wanted (get_or rows a []) b (subst (λ r. Contains r b) (get_or-map (places_with wanted) rows a []) h))
+
+pub goes_with : (wanted : Bool) (rows : List (List Link)) (a b : ℕ) (link : Link) → Contains (get_or rows a []) link → link.refers ≡ wanted
+    → link.target ≡ targets.Own b → Edge (map (places_with wanted) rows) a b
+goes_with wanted rows a b link has kind leads =
+    subst (λ r. Contains r b) (sym (get_or-map (places_with wanted) rows a [])) (own_in_with wanted (get_or rows a []) link b has kind leads)

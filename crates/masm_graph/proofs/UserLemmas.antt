@@ -1,8 +1,8 @@
 -- The users of procedures, as uses come in.
-use Rattle.std.proofs.Common.{◌≡◌, ◌≢◌, ℕ, false, ◌+◌, ◌<◌, ◌≤◌, List, [], ◌∷◌, ◌++◌, take, length, get_or, set, replicate, Vec, Global, ◌⊎◌, inl, inr, ◌↔◌, sym, ap, subst, ◌∙◌, arith}
+use Rattle.std.proofs.Common.{◌≡◌, ◌≢◌, ℕ, false, ◌+◌, ◌<◌, ◌≤◌, List, [], ◌∷◌, ◌++◌, map, take, length, get_or, set, Vec, Global, ◌⊎◌, inl, inr, ◌↔◌, sym, ap, ap₂, subst, ◌∙◌, arith}
 use Rattle.std.proofs.lemmas.Bool.{cases_lt}
 use Rattle.std.proofs.lemmas.Bool.Decides.{eqb_tells}
-use Rattle.std.proofs.lemmas.List.{map-set, length-map, take_more, get_or-map, get_or-set_same, get_or-set_other, get_or_past, get_or_default, get_or-replicate, length-replicate}
+use Rattle.std.proofs.lemmas.List.{map-set, map-append, map_more, length-map, take_more, get_or-map, get_or-set_same, get_or-set_other, get_or_past, get_or_default}
 use Rattle.std.proofs.lemmas.List.Elements.{Contains-append_left, Contains-push, Contains-push_cases}
 use Rattle.std.specs.List.{Any, Contains}
 use Rattle.masm_graph.specs.declared.links.Link.{Link}
@@ -43,6 +43,13 @@ row_has row i link place within is leads = (i, link, within, sym is, leads)
 abbrev pub no_link : Link
 no_link = record { at = record { line = 0; column = 0 }; target = targets.Own 0; refers = false }
 
+-- rows in memory are as many as their lists
+pub rows_within : {X : Type 0} (vecs : List (Vec X Global)) (i : ℕ) → i < length vecs → i < length (rows_of vecs)
+rows_within {X} vecs i within = subst (λ n. i < n) (sym (length-map vecs (λ (x : Vec X Global). x.items))) within
+
+pub rows_ended : {X : Type 0} (vecs : List (Vec X Global)) (i : ℕ) → length vecs ≤ i → length (rows_of vecs) ≤ i
+rows_ended {X} vecs i ended = subst (λ n. n ≤ i) (sym (length-map vecs (λ (x : Vec X Global). x.items))) ended
+
 pub row_itself : {X : Type 0} (rows : List (List X)) (i : ℕ) (row : List X) → i < length rows → row ≡ get_or rows i [] → row ≡ get_or rows i row
 row_itself rows i row within is = is ∙ get_or_default rows i [] row within
 
@@ -51,54 +58,54 @@ pub row_read : {X : Type 0} (vecs : List (Vec X Global)) (i : ℕ) (vec : Vec X 
     → vec.items ≡ get_or (rows_of vecs) i []
 row_read {X} vecs i vec within is = ap (λ x. x.items) is ∙ sym (get_or-map (λ (x : Vec X Global). x.items) vecs i vec [] within)
 
+-- what is made of each row, one row more
+pub made_more : {X Y : Type 0} (f : List X → List Y) (rows : List (Vec X Global)) (i : ℕ) (row : Vec X Global) (lent : List X)
+    (made new : List (Vec Y Global)) (one : Vec Y Global) → i < length rows → row ≡ get_or rows i row → lent ≡ row.items
+    → rows_of made ≡ map f (take i (rows_of rows)) → one.items ≡ f lent → new ≡ made ++ one ∷ []
+    → rows_of new ≡ map f (take (i + 1) (rows_of rows))
+made_more {X} {Y} f rows i row lent made new one within is same before made_is pushed =
+    ap rows_of pushed
+    ∙ (map-append (λ (v : Vec Y Global). v.items) made (one ∷ [])
+    ∙ (ap₂ (λ xs n. xs ++ n ∷ []) before (made_is ∙ ap f (same ∙ row_read rows i row within is))
+    ∙ sym (map_more f (rows_of rows) i [] (rows_within rows i within))))
+
 -- a user is added to the row of a place
 pub user-added : (users : List (Vec ℕ Global)) (place user : ℕ) (w v : Vec ℕ Global) (t : Target) → place < length users → w ≡ get_or users place w
     → v.items ≡ w.items ++ user ∷ [] → t ≡ targets.Own place
     → (p other : ℕ) → Edge (rows_of (set users place v)) p other ↔ (Edge (rows_of users) p other ⊎ ((other ≡ user) × (t ≡ targets.Own p)))
-user-added users place user w v t within is new leads = λ p other. (to p other, from p other)
+user-added users place user w v t within is added leads = λ p other. elim (eqb_tells p place) [
+  | inl same ↦ subst (λ q. Edge (rows_of (set users place v)) q other ↔ (Edge (rows_of users) q other ⊎ ((other ≡ user) × (t ≡ targets.Own q)))) (sym same.1) (here other)
+  | inr apart ↦ (
+    λ edge. inl (subst (λ r. Contains r other) (row_other p apart.1) edge),
+    λ h. elim h [
+      | inl before ↦ subst (λ r. Contains r other) (sym (row_other p apart.1)) before
+      | inr at ↦ absurd (apart.1 (same_place p place (sym at.1 ∙ leads)))
+    ],
+  )
+]
   where
-    there : w.items ≡ get_or (rows_of users) place []
-    there = ap (λ x. x.items) is ∙ sym (get_or-map (λ (x : Vec ℕ Global). x.items) users place w [] within)
-
     sets : rows_of (set users place v) ≡ set (rows_of users) place v.items
     sets = map-set (λ (x : Vec ℕ Global). x.items) users place v
 
     row_here : get_or (rows_of (set users place v)) place [] ≡ get_or (rows_of users) place [] ++ user ∷ []
     row_here =
         ap (λ r. get_or r place []) sets
-        ∙ (get_or-set_same (rows_of users) place v.items [] (let n = length-map users (λ (x : Vec ℕ Global). x.items) in omega arith)
-        ∙ (new ∙ ap (λ r. r ++ user ∷ []) there))
+        ∙ (get_or-set_same (rows_of users) place v.items [] (rows_within users place within) ∙ (added ∙ ap (λ r. r ++ user ∷ []) (row_read users place w within is)))
 
     row_other : (p : ℕ) → p ≢ place → get_or (rows_of (set users place v)) p [] ≡ get_or (rows_of users) p []
     row_other p apart = ap (λ r. get_or r p []) sets ∙ get_or-set_other (rows_of users) place p v.items [] apart
 
-    to : (p other : ℕ) → Edge (rows_of (set users place v)) p other → Edge (rows_of users) p other ⊎ ((other ≡ user) × (t ≡ targets.Own p))
-    to p other edge =
-        elim (eqb_tells p place) [
-          | inl same ↦
-              elim (Contains-push_cases (get_or (rows_of users) place []) user other
-              (subst (λ r. Contains r other) (ap (λ q. get_or (rows_of (set users place v)) q []) same.1 ∙ row_here) edge)) [
-                | inl before ↦ inl (subst (λ q. Edge (rows_of users) q other) (sym same.1) before)
-                | inr here ↦ inr (sym here, leads ∙ ap targets.Own (sym same.1))
-              ]
-          | inr apart ↦ inl (subst (λ r. Contains r other) (row_other p apart.1) edge)
-        ]
-
-    from : (p other : ℕ) → Edge (rows_of users) p other ⊎ ((other ≡ user) × (t ≡ targets.Own p)) → Edge (rows_of (set users place v)) p other
-    from p other (inl before) =
-        elim (eqb_tells p place) [
-          | inl same ↦ subst (λ q. Edge (rows_of (set users place v)) q other) (sym same.1)
-              (subst (λ r. Contains r other) (sym row_here)
-              (Contains-append_left (get_or (rows_of users) place []) (user ∷ []) other
-              (subst (λ q. Edge (rows_of users) q other) same.1 before)))
-          | inr apart ↦ subst (λ r. Contains r other) (sym (row_other p apart.1)) before
-        ]
-    from p other (inr here) =
-        let same : p ≡ place = same_place p place (sym here.1 ∙ leads) in
-        subst (λ q. Edge (rows_of (set users place v)) q other) (sym same)
-        (subst (λ r. Contains r other) (sym row_here)
-        (subst (Contains (get_or (rows_of users) place [] ++ user ∷ [])) (sym here.0)
-        (Contains-push (get_or (rows_of users) place []) user)))
+    here : (other : ℕ) → Edge (rows_of (set users place v)) place other ↔ (Edge (rows_of users) place other ⊎ ((other ≡ user) × (t ≡ targets.Own place)))
+    here other = (
+      λ edge. elim (Contains-push_cases (get_or (rows_of users) place []) user other (subst (λ r. Contains r other) row_here edge)) [
+        | inl before ↦ inl before
+        | inr at ↦ inr (sym at, leads)
+      ],
+      λ h. subst (λ r. Contains r other) (sym row_here) (elim h [
+        | inl before ↦ Contains-append_left (get_or (rows_of users) place []) (user ∷ []) other before
+        | inr at ↦ subst (Contains (get_or (rows_of users) place [] ++ user ∷ [])) (sym at.0) (Contains-push (get_or (rows_of users) place []) user)
+      ]),
+    )
 
 -- the edges after one more use of a row
 pub uses-more : (old mid new : List (List ℕ)) (user : ℕ) (row : List Link) (i : ℕ) (link : Link) → i < length row → link ≡ get_or row i link
@@ -122,10 +129,6 @@ uses-more old mid new user row i link within is first second p other =
       ],
     )
 
-pub uses-none : (old : List (List ℕ)) (user : ℕ) (row : List Link) (p other : ℕ) → Edge old p other
-    ↔ (Edge old p other ⊎ ((other ≡ user) × HasOwn (take 0 row) p))
-uses-none old user row p other = (λ h. inl h, λ h. elim h [ inl in_old ↦ in_old | inr added ↦ absurd (let none = added.1.2 in omega arith) ])
-
 -- the edges after one more row
 pub rows-more : (rows : List (List Link)) (old new : List (List ℕ)) (i : ℕ) (row : List Link) → row ≡ get_or rows i []
     → ((p other : ℕ) → Edge old p other ↔ ((other < i) × UsesProcedure rows other p))
@@ -141,16 +144,6 @@ rows-more rows old new i row is first second p other = (
     | inr apart ↦ (second p other).1 (inl ((first p other).1 ((let l = h.0 in let a = apart.1 in omega arith), h.1)))
   ],
 )
-
-pub no_edges : (n p other : ℕ) (rows : List (List Link)) → Edge (replicate n []) p other ↔ ((other < 0) × UsesProcedure rows other p)
-no_edges n p other rows =
-    (λ edge. absurd (omega (arith, edge.1, ap (length {A = ℕ}) (empty n p))), λ h. absurd (omega (arith, h.0)))
-  where
-    empty : (n p : ℕ) → get_or {A = List ℕ} (replicate n []) p [] ≡ []
-    empty n p = elim (cases_lt p n) [
-      | inl below ↦ get_or-replicate n p [] [] below
-      | inr past ↦ get_or_past (replicate n []) p [] (let l = length-replicate {A = List ℕ} n [] in omega arith)
-    ]
 
 -- a row with uses stands in the list
 pub user_within : (rows : List (List Link)) (user place : ℕ) → UsesProcedure rows user place → user < length rows

@@ -22,7 +22,7 @@ use Rattle.masm_tree.specs.Trees.{Body, Leaf_then, Procedure, append}
 use Rattle.masm_tree.specs.Views.{procedure_of, source_of}
 use Rattle.masm_names.proofs.NameLemmas.{none_from}
 use Rattle.masm_names.specs.Uses.{place_in}
-use Rattle.masm_uses.proofs.UsedLemmas.{mapped}
+use Rattle.masm_uses.proofs.UsedLemmas.{mapped, named_at}
 use Rattle.masm_link.specs.Libraries.{LibraryProcedure, is_plain, are_plain, is_among, has_name, defines, library_of, nowhere, plain_body, procedure_in, with_library}
 
 abbrev Entry : Type 0
@@ -80,22 +80,6 @@ key_place (e ∷ entries) name =
     position_cons (is_key name) e.0 (keys_of entries)
     ∙ ap₂ (λ b o. cond b (Some 0) (option_map (λ i. i + 1) o)) (nat_list_eq_equiv.symm name e.0.items) (key_place entries name)
 
--- a place at which a name stands first
-place_leads : (names : List (List ℕ)) (name : List ℕ) (i : ℕ) → place_in names name ≡ Some i → slice_get names i ≡ Some name
-place_leads [] name i e = cc
-place_leads (n ∷ names) name i e = by (bytes_eq n name) refl e (place_in names name) refl (λ k there. place_leads names name k there)
-  where
-    by : (b : Bool) → bytes_eq n name ≡ b → cond b (Some 0) (option_map (λ k. k + 1) (place_in names name)) ≡ Some i
-        → (o : Option ℕ) → place_in names name ≡ o → ((k : ℕ) → place_in names name ≡ Some k → slice_get names k ≡ Some name)
-        → slice_get (n ∷ names) i ≡ Some name
-    by true is some o there later =
-        subst (λ k. slice_get (n ∷ names) k ≡ Some name) (same_Some 0 i some) (ap Some ((bytes_eq-Decides n name).0 is))
-    by false is some None there later = absurd (let none = ap (option_map (λ k. k + 1)) there in cc)
-    by false is some (Some k) there later =
-        let next : Some (k + 1) ≡ Some i = sym (ap (option_map (λ j. j + 1)) there) ∙ some in
-        let same : suc k ≡ i = (let e = same_Some (k + 1) i next in omega arith) in
-        subst (λ j. slice_get (n ∷ names) j ≡ Some name) same (later k there)
-
 AreApart : List (List ℕ) → Type 0
 AreApart [] = Unit {0}
 AreApart (n ∷ names) = AllByRecursion (λ m. bytes_eq n m ≡ false) names × AreApart names
@@ -133,7 +117,7 @@ pub placed : (entries : List Entry) (name : List ℕ) (found : Option ℕ) → I
     → found ≡ position (is_key name) (keys_of entries) → (place : ℕ) → (found ≡ Some place) ↔ (slice_get (map (λ (p : LibraryProcedure). p.name) (library_of entries)) place ≡ Some name)
 placed entries name found distinct is place =
     let names = map (λ (p : LibraryProcedure). p.name) (library_of entries) in (
-      λ e. place_leads names name place (sym (key_place entries name) ∙ (sym is ∙ e)),
+      λ e. named_at names name place (sym (key_place entries name) ∙ (sym is ∙ e)),
       λ e. is ∙ (key_place entries name ∙ leads_place names name place (names_apart entries distinct) e),
     )
 

@@ -75,23 +75,25 @@ FindsLeast-same P Q None to from none = λ at cause q. none at cause (from at ca
 FindsLeast-same P Q (Some r) to from least =
     record { stands = to r.at r.cause least.stands; first = λ other why q. least.first other why (from other why q) }
 
+-- of two least refusals the one that is not behind is the least of both kinds
+least-ahead : (R P Q : Position → LinkCause → Type 0) (a b : Refusal) → R a.at a.cause
+    → ((at : Position) (cause : LinkCause) → R at cause → P at cause ⊎ Q at cause) → IsLeast P a.at a.cause → IsLeast Q b.at b.cause
+    → IsNoLater a.at a.cause b.at b.cause → IsLeast R a.at a.cause
+least-ahead R P Q a b stands either p q ahead = record {
+  stands = stands;
+  first = λ other why has. elim (either other why has) [
+    | inl in_p ↦ p.first other why in_p
+    | inr in_q ↦ no_later-trans a.at a.cause b.at b.cause other why ahead (q.first other why in_q)
+  ];
+}
+
 least-either : (P Q : Position → LinkCause → Type 0) (a b : Refusal) → IsLeast P a.at a.cause → IsLeast Q b.at b.cause → (c : Option Refusal)
-    → (c ≡ cond (is_no_later a b) (Some a) (Some b)) → FindsLeast (Either P Q) c
+    → c ≡ cond (is_no_later a b) (Some a) (Some b) → FindsLeast (Either P Q) c
 least-either P Q a b p q c e = elim (is_no_later-tells a b) [
-  | inl ahead ↦ subst (FindsLeast (Either P Q)) (sym (e ∙ ap (λ t. cond t (Some a) (Some b)) ahead.0)) (record {
-    stands = inl p.stands;
-    first = λ other why has. elim has [
-      | inl in_p ↦ p.first other why in_p
-      | inr in_q ↦ no_later-trans a.at a.cause b.at b.cause other why ahead.1 (q.first other why in_q)
-    ];
-  })
-  | inr behind ↦ subst (FindsLeast (Either P Q)) (sym (e ∙ ap (λ t. cond t (Some a) (Some b)) behind.0)) (record {
-    stands = inr q.stands;
-    first = λ other why has. elim has [
-      | inl in_p ↦ no_later-trans b.at b.cause a.at a.cause other why behind.1 (p.first other why in_p)
-      | inr in_q ↦ q.first other why in_q
-    ];
-  })
+  | inl ahead ↦ subst (FindsLeast (Either P Q)) (sym (e ∙ ap (λ t. cond t (Some a) (Some b)) ahead.0))
+      (least-ahead (Either P Q) P Q a b (inl p.stands) (λ at cause has. has) p q ahead.1)
+  | inr behind ↦ subst (FindsLeast (Either P Q)) (sym (e ∙ ap (λ t. cond t (Some a) (Some b)) behind.0))
+      (least-ahead (Either P Q) Q P b a (inr q.stands) (λ at cause has. elim has [ inl in_p ↦ inr in_p | inr in_q ↦ inl in_q ]) q p behind.1)
 ]
 
 -- the earlier of two least refusals is the least of both kinds
@@ -143,21 +145,8 @@ FindsLeast-stays Q (Some r) behind =
       ];
     }
 
--- one refusal alone
-pub FindsLeast-one : (P : Position → LinkCause → Type 0) (at : Position) (cause : LinkCause) → P at cause
-    → ((other : Position) (why : LinkCause) → P other why → (other ≡ at) × (why ≡ cause)) → FindsLeast P (Some (record { at = at; cause = cause }))
-FindsLeast-one P at cause stands alone =
-    record {
-      stands = stands;
-      first = λ other why has. inr
-          (sym (alone other why has).0, (let same = ap order (alone other why has).1 in omega arith));
-    }
-
 -- The least refusal of a list's elements, as they are tested in order.
 module _ {X : Type 0} (P : ℕ → X → Position → LinkCause → Type 0) (items : List X) where
-  pub Among-start : FindsLeast (AmongFirst P items 0) None
-  Among-start = λ at cause h. absurd (omega (arith, h.1))
-
   pub Among-either : (i : ℕ) (x : X) (r : Option Refusal) → i < length items → x ≡ get_or items i x
       → FindsLeast (Either (AmongFirst P items i) (P i x)) r
       → FindsLeast (AmongFirst P items (i + 1)) r

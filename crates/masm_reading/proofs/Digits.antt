@@ -1,11 +1,7 @@
 -- The values of digits stay small.
-use Rattle.std.proofs.Common.{◌≡◌, ℕ, ◌+◌, ◌*◌, ◌^◌, ◌<◌, ◌≤◌, List, drop, arith, lit<, add-one}
-use Rattle.std.proofs.Math.Nat.{mul-le-mul_left, pow-le-pow_right, pow-suc}
+use Rattle.std.proofs.Common.{◌≡◌, ℕ, ◌+◌, ◌*◌, ◌^◌, ◌<◌, ◌≤◌, List, drop, arith, lit<}
+use Rattle.std.proofs.Math.Nat.{mul-le-mul_left, pow-le-pow_right}
 use Rattle.masm_reading.specs.Numbers.{value_from}
-
--- i digits give less than the i-th power of 16
-pub digit_more : (base v d i : ℕ) → base ≤ 16 → v < 16 ^ i → d < base → v * base + d < 16 ^ (i + 1)
-digit_more base v d i few small is_digit = rw (add-one, pow-suc) (omega (arith, mul-le-mul_left v few))
 
 -- at 20 digits at most there is room for one more
 pub with_room : (i v base : ℕ) → i ≤ 20 → v < 16 ^ i → base ≤ 16 → v * base + 16 < 2 ^ 100

@@ -1,7 +1,7 @@
 -- How high the blocks of a list stand once they are joined: only those count that are higher than all before them.
 use Rattle.std.proofs.Common.{◌≡◌, ◌≢◌, ℕ, zero, suc, ◌+◌, ◌*◌, ◌/◌, ◌%◌, ◌<◌, ◌≤◌, min, max, Bool, true, false, cond, List, [], ◌∷◌, length, map, inl, inr, refl, sym, ap, ap₂, subst, ◌∙◌, arith}
 use Rattle.std.specs.Prelude.{nat_le, nat_lt}
-use Rattle.std.proofs.lemmas.Bool.{cases_lt}
+use Rattle.std.proofs.lemmas.Bool.{cases_Bool, cases_lt}
 use Rattle.std.proofs.lemmas.Bool.Decides.{nat_tests}
 use Rattle.std.proofs.lemmas.List.{length-map}
 use Rattle.masm_size.specs.declared.shape.Rise.{Rise}
@@ -10,27 +10,28 @@ use Rattle.masm_size.specs.Sizes.{Shape, ShapeRow, one_if, capped, rises_from, r
 
 -- levels
 
+-- tests of numbers
+pub yes_le : (m n : ℕ) → m ≤ n → nat_le m n ≡ true
+yes_le m n h = grind (arith, nat_tests)
+
+pub no_le : (m n : ℕ) → n < m → nat_le m n ≡ false
+no_le m n h = grind (arith, nat_tests)
+
 within-stop : (levels count i h : ℕ) → count ≤ 1 → height_within levels count i h ≡ h
 within-stop zero count i h few = refl
-within-stop (suc levels) count i h few =
-    let test : nat_lt 1 count ≡ false = grind (arith, nat_tests) in
-    ap (λ t. cond t (height_within levels (count / 2 + count % 2) (i / 2) (height_next count i h)) h) test
+within-stop (suc levels) count i h few = let test : nat_lt 1 count ≡ false = grind (arith, nat_tests) in rw test refl
 
 within-go : (levels count i h : ℕ) → 1 < count
     → height_within (suc levels) count i h ≡ height_within levels (count / 2 + count % 2) (i / 2) (height_next count i h)
-within-go levels count i h more =
-    let test : nat_lt 1 count ≡ true = grind (arith, nat_tests) in
-    ap (λ t. cond t (height_within levels (count / 2 + count % 2) (i / 2) (height_next count i h)) h) test
+within-go levels count i h more = let test : nat_lt 1 count ≡ true = grind (arith, nat_tests) in rw test refl
 
 -- more levels than are needed change nothing
 enough : (n m count i h : ℕ) → count ≤ suc n → count ≤ suc m → height_within n count i h ≡ height_within m count i h
 enough zero m count i h a b = sym (within-stop m count i h (omega arith))
 enough (suc n) zero count i h a b = within-stop (suc n) count i h (omega arith)
-enough (suc n) (suc m) count i h a b = elim (cases_lt 1 count) [
-  | inl more ↦
-      within-go n count i h more
-      ∙ (enough n m (count / 2 + count % 2) (i / 2) (height_next count i h) (omega arith) (omega arith) ∙ sym (within-go m count i h more))
-  | inr few ↦ within-stop (suc n) count i h few ∙ sym (within-stop (suc m) count i h few)
+enough (suc n) (suc m) count i h a b = elim (cases_Bool (nat_lt 1 count)) [
+  | inl more ↦ rw more (enough n m (count / 2 + count % 2) (i / 2) (height_next count i h) (omega arith) (omega arith))
+  | inr few ↦ rw few refl
 ]
 
 pub among-done : (count i h : ℕ) → count ≤ 1 → height_among count i h ≡ h
@@ -45,10 +46,6 @@ among-next (suc n) i h more =
     ∙ enough n (suc n / 2 + suc n % 2) (suc n / 2 + suc n % 2) (i / 2) (height_next (suc n) i h) (omega arith) (omega arith)
 
 pub ruleset levels = (among-done, among-next)
-
-pub highest-more : (count : ℕ) (rise : Rise) (rises : List Rise)
-    → highest count (rise ∷ rises) ≡ max (height_among count rise.index rise.height) (highest count rises)
-highest-more count rise rises = refl
 
 -- heights on the next level
 
@@ -80,31 +77,19 @@ next-mono count i k a b before below less low = elim (cases_lt (i + 1) count) [
 
 within-max : (levels count i a b : ℕ) → height_within levels count i (max a b) ≡ max (height_within levels count i a) (height_within levels count i b)
 within-max zero count i a b = refl
-within-max (suc levels) count i a b = elim (cases_lt 1 count) [
-  | inl more ↦
-      within-go levels count i (max a b) more
-      ∙ (ap (height_within levels (count / 2 + count % 2) (i / 2)) (next-max (is_joined count i) a b)
-      ∙ (within-max levels (count / 2 + count % 2) (i / 2) (height_next count i a) (height_next count i b)
-      ∙ sym (ap₂ max (within-go levels count i a more) (within-go levels count i b more))))
-  | inr few ↦
-      within-stop (suc levels) count i (max a b) few
-      ∙ sym (ap₂ max (within-stop (suc levels) count i a few) (within-stop (suc levels) count i b few))
+within-max (suc levels) count i a b = elim (cases_Bool (nat_lt 1 count)) [
+  | inl more ↦ rw more (ap (height_within levels (count / 2 + count % 2) (i / 2)) (next-max (is_joined count i) a b)
+      ∙ within-max levels (count / 2 + count % 2) (i / 2) (height_next count i a) (height_next count i b))
+  | inr few ↦ rw few refl
 ]
 
 -- no block stands deeper than one before it
 within-mono : (levels count i k a b : ℕ) → i ≤ k → k < count → b ≤ a → b ≤ 1025 → height_within levels count k b ≤ height_within levels count i a
 within-mono zero count i k a b before below less low = less
-within-mono (suc levels) count i k a b before below less low = elim (cases_lt 1 count) [
-  | inl more ↦
-      let deeper =
-      within-mono levels (count / 2 + count % 2) (i / 2) (k / 2) (height_next count i a) (height_next count k b) (omega arith)
-      (omega arith)
-      (next-mono count i k a b before below less low) (next-low (is_joined count k) b low) in
-      subst (λ h. h ≤ height_within (suc levels) count i a) (sym (within-go levels count k b more))
-      (subst (λ h. height_within levels (count / 2 + count % 2) (k / 2) (height_next count k b) ≤ h) (sym (within-go levels count i a more)) deeper)
-  | inr few ↦
-      subst (λ h. h ≤ height_within (suc levels) count i a) (sym (within-stop (suc levels) count k b few))
-      (subst (λ h. b ≤ h) (sym (within-stop (suc levels) count i a few)) less)
+within-mono (suc levels) count i k a b before below less low = elim (cases_Bool (nat_lt 1 count)) [
+  | inl more ↦ rw more (within-mono levels (count / 2 + count % 2) (i / 2) (k / 2) (height_next count i a) (height_next count k b) (omega arith)
+      (omega arith) (next-mono count i k a b before below less low) (next-low (is_joined count k) b low))
+  | inr few ↦ rw few less
 ]
 
 -- the greatest height of all blocks
@@ -161,14 +146,10 @@ AreLow (h ∷ hs) = (h ≤ 1025) × AreLow hs
 
 pub rise-taken : (i below h : ℕ) (hs : List ℕ) → below ≤ h
     → rises_from i below (h ∷ hs) ≡ (record { index = capped i; height = h }) ∷ rises_from (suc i) (suc h) hs
-rise-taken i below h hs high =
-    let test : nat_le below h ≡ true = grind (arith, nat_tests) in
-    ap (λ t. cond t ((record { index = capped i; height = h }) ∷ rises_from (suc i) (suc h) hs) (rises_from (suc i) below hs)) test
+rise-taken i below h hs high = rw (yes_le below h high) refl
 
 pub rise-left : (i below h : ℕ) (hs : List ℕ) → h < below → rises_from i below (h ∷ hs) ≡ rises_from (suc i) below hs
-rise-left i below h hs low =
-    let test : nat_le below h ≡ false = grind (arith, nat_tests) in
-    ap (λ t. cond t ((record { index = capped i; height = h }) ∷ rises_from (suc i) (suc h) hs) (rises_from (suc i) below hs)) test
+rise-left i below h hs low = rw (no_le below h low) refl
 
 highest-rises : (count i below : ℕ) (hs : List ℕ) (c : ℕ) → i + length hs ≡ count → count ≤ 4294967295 → AreLow hs
     → ((k g : ℕ) → i ≤ k → k < count → g < below → height_within count count k g ≤ c)
@@ -192,7 +173,7 @@ highest-rises count i below (h ∷ hs) c all small low covers = elim (cases_lt h
       omega arith
 ]
 
-one_if-le : (b : Bool) → one_if b ≤ 1
+pub one_if-le : (b : Bool) → one_if b ≤ 1
 one_if-le true = omega arith
 one_if-le false = omega arith
 

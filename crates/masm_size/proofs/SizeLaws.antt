@@ -2,7 +2,7 @@
 use Rattle.std.proofs.Common.{◌≡◌, ℕ, zero, suc, ◌+◌, ◌-◌, ◌*◌, ◌<◌, ◌≤◌, min, max, Bool, true, false, cond, List, [], ◌∷◌, ◌++◌, length, map, ⊎_elim, inl, inr, refl, sym, ap, ap₂, subst, ◌∙◌, append-nil, add-zero, length-append, arith}
 use Rattle.std.specs.Prelude.{nat_le, not, ◌&&◌}
 use Rattle.std.proofs.lemmas.List.{length-map, map-append}
-use Rattle.std.proofs.lemmas.Bool.{cases_lt}
+use Rattle.std.proofs.lemmas.Bool.{cases_Bool, cases_lt}
 use Rattle.std.proofs.lemmas.Bool.Decides.{nat_tests}
 use Rattle.vm_ops.specs.declared.item.Item.{Item}
 use Rattle.masm_flat.specs.declared.extent.Extent.{Extent}
@@ -11,7 +11,7 @@ use Rattle.masm_flat.specs.Blocks.{Piece, Operation, Whole, blocks_behind, paire
 use Rattle.masm_flat.specs.Lists.{times}
 use Rattle.masm_size.specs.Sizes.{as_extent, Shape, Run, High, ShapeRow, Size, put, shape_of, shapes_of, total, limited, size_of, run_of, no_row, one_if, capped, starts_in_run, ends_in_run, rises_from, row_of, top_of, rises_behind, offset_of, starts_with, row_behind, row_both, row_times, both, times_size, one_block, height_of, one_high, join_heights, height_joined, extent_of, block_size}
 use Rattle.masm_flat.proofs.Levels.{length-paired}
-use Rattle.masm_size.proofs.Rows.{rise-taken, rise-left, AreLow, height-row}
+use Rattle.masm_size.proofs.Rows.{yes_le, no_le, rise-taken, rise-left, one_if-le, AreLow, height-row}
 use Rattle.masm_flat.proofs.Seen.{seen-joined}
 
 -- the parts of two lists, one behind the other; two runs that meet are one part
@@ -40,54 +40,25 @@ shapes-append (x ∷ xs) ys = ap (put (shape_of x)) (shapes-append xs ys) ∙ sy
 rises-append : (i below : ℕ) (xs ys : List ℕ)
     → rises_from i below (xs ++ ys) ≡ rises_from i below xs ++ rises_from (i + length xs) (top_of below (rises_from i below xs)) ys
 rises-append i below [] ys = ap (λ k. rises_from k below ys) (sym (add-zero i))
-rises-append i below (h ∷ hs) ys = elim (cases_lt h below) [
-  | inl under ↦
-      rise-left i below h (hs ++ ys) under
-      ∙ (rises-append (suc i) below hs ys
-      ∙ (ap (λ k. rises_from (suc i) below hs ++ rises_from k (top_of below (rises_from (suc i) below hs)) ys) (omega arith)
-      ∙ ap (λ rs. rs ++ rises_from (i + length (h ∷ hs)) (top_of below rs) ys) (sym (rise-left i below h hs under))))
-  | inr above ↦
-      rise-taken i below h (hs ++ ys) above
-      ∙ (ap (λ rs. (record { index = capped i; height = h }) ∷ rs) (rises-append (suc i) (suc h) hs ys
-      ∙ ap (λ k. rises_from (suc i) (suc h) hs ++ rises_from k (top_of (suc h) (rises_from (suc i) (suc h) hs)) ys) (omega arith))
-      ∙ ap (λ rs. rs ++ rises_from (i + length (h ∷ hs)) (top_of below rs) ys) (sym (rise-taken i below h hs above)))
+rises-append i below (h ∷ hs) ys = elim (cases_Bool (nat_le below h)) [
+  | inl above ↦ rw above (ap (λ rs. (record { index = capped i; height = h }) ∷ rs) (rises-append (suc i) (suc h) hs ys
+      ∙ ap (λ k. rises_from (suc i) (suc h) hs ++ rises_from k (top_of (suc h) (rises_from (suc i) (suc h) hs)) ys) (omega arith)))
+  | inr under ↦ rw under (rises-append (suc i) below hs ys
+      ∙ ap (λ k. rises_from (suc i) below hs ++ rises_from k (top_of below (rises_from (suc i) below hs)) ys) (omega arith))
 ]
-
-behind-taken : (offset below : ℕ) (rise : Rise) (rises : List Rise) → below ≤ rise.height
-    → rises_behind offset below (rise ∷ rises)
-    ≡ (record { index = capped (offset + rise.index); height = rise.height }) ∷ rises_behind offset below rises
-behind-taken offset below rise rises high =
-    let test : nat_le below rise.height ≡ true = grind (arith, nat_tests) in
-    ap (λ t. cond t ((record { index = capped (offset + rise.index); height = rise.height }) ∷ rises_behind offset below rises)
-    (rises_behind offset below rises)) test
-
-behind-left : (offset below : ℕ) (rise : Rise) (rises : List Rise) → rise.height < below
-    → rises_behind offset below (rise ∷ rises) ≡ rises_behind offset below rises
-behind-left offset below rise rises low =
-    let test : nat_le below rise.height ≡ false = grind (arith, nat_tests) in
-    ap (λ t. cond t ((record { index = capped (offset + rise.index); height = rise.height }) ∷ rises_behind offset below rises)
-    (rises_behind offset below rises)) test
 
 -- the rises of a list that stands behind others
 rises-behind : (d i below low : ℕ) (hs : List ℕ) → rises_behind (capped d) below (rises_from i low hs) ≡ rises_from (d + i) (max below low) hs
 rises-behind d i below low [] = refl
 rises-behind d i below low (h ∷ hs) = elim (cases_lt h low) [
-  | inl under ↦
-      ap (rises_behind (capped d) below) (rise-left i low h hs under)
-      ∙ (rises-behind d (suc i) below low hs
-      ∙ (ap (λ k. rises_from k (max below low) hs) (omega arith) ∙ sym (rise-left (d + i) (max below low) h hs (omega arith))))
+  | inl under ↦ rw (no_le low h under, no_le (max below low) h (omega arith))
+      (rises-behind d (suc i) below low hs ∙ ap (λ k. rises_from k (max below low) hs) (omega arith))
   | inr above ↦ elim (cases_lt h below) [
-    | inl hidden ↦
-        ap (rises_behind (capped d) below) (rise-taken i low h hs above)
-        ∙ (behind-left (capped d) below (record { index = capped i; height = h }) (rises_from (suc i) (suc h) hs) hidden
-        ∙ (rises-behind d (suc i) below (suc h) hs
-        ∙ (ap₂ (λ k m. rises_from k m hs) (omega arith) (omega arith) ∙ sym (rise-left (d + i) (max below low) h hs (omega arith)))))
-    | inr seen ↦
-        ap (rises_behind (capped d) below) (rise-taken i low h hs above)
-        ∙ (behind-taken (capped d) below (record { index = capped i; height = h }) (rises_from (suc i) (suc h) hs) seen
-        ∙ (ap₂ (λ k rs. (record { index = k; height = h }) ∷ rs) (capped_sum d i)
+    | inl hidden ↦ rw (yes_le low h above, no_le below h hidden, no_le (max below low) h (omega arith))
         (rises-behind d (suc i) below (suc h) hs ∙ ap₂ (λ k m. rises_from k m hs) (omega arith) (omega arith))
-        ∙ sym (rise-taken (d + i) (max below low) h hs (omega arith))))
+    | inr seen ↦ rw (yes_le low h above, yes_le below h seen, yes_le (max below low) h (omega arith))
+        (ap₂ (λ k rs. (record { index = k; height = h }) ∷ rs) (capped_sum d i)
+        (rises-behind d (suc i) below (suc h) hs ∙ ap₂ (λ k m. rises_from k m hs) (omega arith) (omega arith)))
   ]
 ]
   where
@@ -115,9 +86,8 @@ none_higher i d below (h ∷ hs) rises is = elim (cases_lt h below) [
     top-le : (below : ℕ) (hs : List ℕ) (i : ℕ) → below ≤ top_of below (rises_from i below hs)
     top-le below [] i = omega arith
     top-le below (h ∷ hs) i = elim (cases_lt h below) [
-      | inl under ↦ subst (λ rs. below ≤ top_of below rs) (sym (rise-left i below h hs under)) (top-le below hs (suc i))
-      | inr above ↦
-          subst (λ rs. below ≤ top_of below rs) (sym (rise-taken i below h hs above)) (let next = top-le (suc h) hs (suc i) in omega arith)
+      | inl under ↦ rw (no_le below h under) (top-le below hs (suc i))
+      | inr above ↦ rw (yes_le below h above) (let next = top-le (suc h) hs (suc i) in omega arith)
     ]
 
 -- rows of two lists
@@ -125,10 +95,6 @@ none_higher i d below (h ∷ hs) rises is = elim (cases_lt h below) [
 abbrev is_none : List Shape → Bool
 is_none [] = true
 is_none (x ∷ xs) = false
-
-one_if-le : (b : Bool) → one_if b ≤ 1
-one_if-le true = omega arith
-one_if-le false = omega arith
 
 ends-length : (xs : List Shape) → one_if (ends_in_run xs) ≤ length xs
 ends-length [] = omega arith
@@ -208,16 +174,13 @@ row-apart xs y ys apart =
 ends_high : (xs : List Shape) (i below : ℕ) → ends_in_run xs ≡ true → 2 ≤ top_of below (rises_from i below (map height_of xs))
 ends_high [] i below ends = cc
 ends_high (Run ∷ []) i below ends = elim (cases_lt 1 below) [
-  | inl under ↦ subst (λ rs. 2 ≤ top_of below rs) (sym (rise-left i below 1 [] under)) (omega arith)
-  | inr above ↦ subst (λ rs. 2 ≤ top_of below rs) (sym (rise-taken i below 1 [] above)) (omega arith)
+  | inl under ↦ rw (no_le below 1 under) (omega arith)
+  | inr above ↦ rw (yes_le below 1 above) (omega arith)
 ]
 ends_high (High h ∷ []) i below ends = cc
 ends_high (x ∷ y ∷ xs) i below ends = elim (cases_lt (height_of x) below) [
-  | inl under ↦
-      subst (λ rs. 2 ≤ top_of below rs) (sym (rise-left i below (height_of x) (map height_of (y ∷ xs)) under)) (ends_high (y ∷ xs) (suc i) below ends)
-  | inr above ↦
-      subst (λ rs. 2 ≤ top_of below rs) (sym (rise-taken i below (height_of x) (map height_of (y ∷ xs)) above))
-      (ends_high (y ∷ xs) (suc i) (suc (height_of x)) ends)
+  | inl under ↦ rw (no_le below (height_of x) under) (ends_high (y ∷ xs) (suc i) below ends)
+  | inr above ↦ rw (yes_le below (height_of x) above) (ends_high (y ∷ xs) (suc i) (suc (height_of x)) ends)
 ]
 
 ends-met : (xs ys : List Shape) → ends_in_run xs ≡ true → ends_in_run (xs ++ ys) ≡ ends_in_run (Run ∷ ys)
@@ -367,7 +330,7 @@ times-limited n m row = elim (cases_lt 524288 m) [
   | inr small ↦ ap (times_size (suc n)) (limited-small m row small)
 ]
 
-size-copies : (n : ℕ) (xs : List (Piece Extent)) → size_of (times n xs) ≡ times_size n (size_of xs)
+pub size-copies : (n : ℕ) (xs : List (Piece Extent)) → size_of (times n xs) ≡ times_size n (size_of xs)
 size-copies zero xs = refl
 size-copies (suc zero) xs =
     let t = total xs in
@@ -387,9 +350,6 @@ size-copies (suc (suc n)) xs =
   where
     once_more : (t n : ℕ) → t + suc n * t ≡ suc (suc n) * t
     once_more t n = omega arith
-
-pub size-times : (n : ℕ) (xs ys : List (Piece Extent)) → both (size_of ys) (times_size n (size_of xs)) ≡ size_of (ys ++ times n xs)
-size-times n xs ys = ap (both (size_of ys)) (sym (size-copies n xs)) ∙ sym (size-append ys (times n xs))
 
 -- heights
 

@@ -1,5 +1,5 @@
 -- The size of a body that has a list is that of the list, where the sizes of the procedures that it uses are.
-use Rattle.std.proofs.Common.{◌≡◌, ℕ, zero, suc, ◌-◌, ◌<◌, ◌≤◌, ◌↔◌, min, List, [], ◌∷◌, ◌++◌, length, map, sum, Some, refl, sym, ap, ap₂, subst, ◌∙◌, append_assoc, arith}
+use Rattle.std.proofs.Common.{◌≡◌, ℕ, zero, suc, ◌-◌, ◌≤◌, min, List, [], ◌∷◌, ◌++◌, length, map, sum, Some, refl, sym, ap, ap₂, subst, ◌∙◌, append_assoc, arith}
 use Rattle.std.proofs.lemmas.List.{append-nil}
 use Rattle.vm_ops.specs.declared.item.Item.{Item}
 use Rattle.vm_field.specs.Field.{prime}
@@ -13,46 +13,44 @@ use Rattle.masm_flat.specs.Blocks.{Block, Blocks, Span, Join, Split, Loop, Call,
 use Rattle.masm_flat.specs.Lists.{Exported, Outside, ListOf, own, ListsOf, IsList, nothing, instr, exec, call, procref, syscall, dynexec, branches, loops, repeated, first_export, times, with_locals, block_digest, digest_items}
 use Rattle.masm_flat.proofs.Digests.{four-items}
 use Rattle.masm_flat.proofs.DynamicBodies.{DynexecsOnly}
-use Rattle.masm_size.specs.Sizes.{as_extent, size_of, run_of, both, times_size, extent_of, block_size, Known_sizes, size_onto, procedure_size}
+use Rattle.masm_size.specs.Sizes.{Size, as_extent, size_of, run_of, both, times_size, extent_of, block_size, Known_sizes, size_onto, procedure_size}
 use Rattle.masm_flat.proofs.Flattened.{seen-block, seen-append, seen-operations, seen-times}
 use Rattle.masm_names.proofs.UsesOnly.{UsesOnly}
 use Rattle.masm_names.specs.Uses.{target_names}
 use Rattle.masm_size.proofs.Dispatches.{sum-cons}
-use Rattle.masm_size.proofs.SizeLaws.{size-append, size-block, size-run, size-times, IsSolid, IsSome_size, operations-whole, Agree, extent-whole, block-agree, block-over, block-over_two}
+use Rattle.masm_size.proofs.SizeLaws.{size-append, size-block, size-run, size-copies, IsSolid, IsSome_size, operations-whole, Agree, extent-whole, block-agree, block-over, block-over_two}
 
 -- the extent of a block is its operations and its height, each up to a limit
-mutual
-  pub operations-block : (b : Block) → (seen_as as_extent b).operations ≡ min (seen_as as_operations b) 524289
-  operations-block (Span items) = refl
-  operations-block (Join a b) = omega (arith, operations-block a, operations-block b)
-  operations-block (Split a b) = omega (arith, operations-block a, operations-block b)
-  operations-block (Loop a) = omega (arith, operations-block a)
-  operations-block (Call a) = omega (arith, operations-block a)
-  operations-block (Syscall a) = omega (arith, operations-block a)
-  operations-block (Dyn targets) = omega (arith, operations-blocks targets)
+abbrev IsTold : Block → Type 0
+IsTold b =
+    ((seen_as as_extent b).operations ≡ min (seen_as as_operations b) 524289) × ((seen_as as_extent b).height ≡ min (seen_as as_height b) 1025)
 
-  operations-blocks : (bs : Blocks)
-      → min (sum (map (λ (e : Extent). e.operations) (seen_all as_extent bs))) 524289 ≡ min (sum (seen_all as_operations bs)) 524289
-  operations-blocks no_block = refl
-  operations-blocks (block_before first more) =
+mutual
+  told : (b : Block) → IsTold b
+  told (Span items) = (refl, refl)
+  told (Join a b) = let first = told a in let second = told b in (omega arith, omega arith)
+  told (Split a b) = let first = told a in let second = told b in (omega arith, omega arith)
+  told (Loop a) = let inner = told a in (omega arith, omega arith)
+  told (Call a) = let inner = told a in (omega arith, omega arith)
+  told (Syscall a) = let inner = told a in (omega arith, omega arith)
+  told (Dyn targets) = let all = all_told targets in (omega arith, omega arith)
+
+  all_told : (bs : Blocks)
+      → (min (sum (map (λ (e : Extent). e.operations) (seen_all as_extent bs))) 524289 ≡ min (sum (seen_all as_operations bs)) 524289)
+      × (min (greatest (map (λ (e : Extent). e.height) (seen_all as_extent bs))) 1025 ≡ min (greatest (seen_all as_height bs)) 1025)
+  all_told no_block = (refl, refl)
+  all_told (block_before first more) =
       let extents = sum-cons (seen_as as_extent first).operations (map (λ (e : Extent). e.operations) (seen_all as_extent more)) in
       let counts = sum-cons (seen_as as_operations first) (seen_all as_operations more) in
-      omega (arith, operations-block first, operations-blocks more)
+      let here = told first in
+      let rest = all_told more in
+      (omega arith, omega arith)
 
-mutual
-  pub height-block : (b : Block) → (seen_as as_extent b).height ≡ min (seen_as as_height b) 1025
-  height-block (Span items) = refl
-  height-block (Join a b) = omega (arith, height-block a, height-block b)
-  height-block (Split a b) = omega (arith, height-block a, height-block b)
-  height-block (Loop a) = omega (arith, height-block a)
-  height-block (Call a) = omega (arith, height-block a)
-  height-block (Syscall a) = omega (arith, height-block a)
-  height-block (Dyn targets) = omega (arith, height-blocks targets)
+pub operations-block : (b : Block) → (seen_as as_extent b).operations ≡ min (seen_as as_operations b) 524289
+operations-block b = (told b).0
 
-  height-blocks : (bs : Blocks)
-      → min (greatest (map (λ (e : Extent). e.height) (seen_all as_extent bs))) 1025 ≡ min (greatest (seen_all as_height bs)) 1025
-  height-blocks no_block = refl
-  height-blocks (block_before first more) = omega (arith, height-block first, height-blocks more)
+pub height-block : (b : Block) → (seen_as as_extent b).height ≡ min (seen_as as_height b) 1025
+height-block b = (told b).1
 
 abbrev pub seen : List (Piece Block) → List (Piece Extent)
 seen pieces = seen_pieces (seen_as as_extent) pieces
@@ -139,21 +137,25 @@ module _ {source : Source} {out : Outside} (some : HasOperations out.exports) (c
       subst (λ z. Agree (extent_of z) (seen_as as_extent (block_of ys))) (sym (fits.size name ys of d))
       (subst (Agree (extent_of (size_of (seen ys)))) (sym (seen-block as_extent ys)) (extent-whole (seen ys) (list-of-solid some d)))
 
-  -- a block behind a list
-  behind : (before : List (Piece Extent)) (e f : Extent) → block_size e ≡ block_size f
-      → both (size_of before) (block_size e) ≡ size_of (before ++ Whole f ∷ [])
-  behind before e f same = ap (both (size_of before)) (same ∙ sym (size-block f)) ∙ sym (size-append before (Whole f ∷ []))
+  -- more behind a list, and the rest
+  sized-more : (before more ys : List (Piece Extent)) (locals : ℕ) (b : Body) {z : Size} → z ≡ size_of more
+      → size_onto known locals b (size_of (before ++ more)) ≡ size_of ((before ++ more) ++ ys)
+      → size_onto known locals b (both (size_of before) z) ≡ size_of (before ++ (more ++ ys))
+  sized-more before more ys locals b is rest =
+      ap (size_onto known locals b) (ap (both (size_of before)) is ∙ sym (size-append before more)) ∙ rest ∙ ap size_of (append_assoc before more ys)
 
-  -- a run behind a list, and the rest
-  sized-run : (before : List (Piece Extent)) (items : List Item) (locals : ℕ) (b : Body) (xs : List (Piece Block))
-      → size_onto known locals b (size_of (before ++ map Operation items)) ≡ size_of ((before ++ map Operation items) ++ seen xs)
-      → size_onto known locals b (both (size_of before) (run_of (length items))) ≡ size_of (before ++ seen (map Operation items ++ xs))
-  sized-run before items locals b xs rest =
-      ap (size_onto known locals b) (ap (both (size_of before)) (sym (size-run items)) ∙ sym (size-append before (map Operation items)))
-      ∙ rest
-      ∙ ap size_of (append_assoc before (map Operation items) (seen xs)
-      ∙ ap (λ zs. before ++ zs) (sym
-      (seen-append as_extent (map Operation items) xs ∙ ap (λ zs. zs ++ seen xs) (seen-operations as_extent items))))
+  -- the same for a block, for a run, and for another list
+  sized-block : (before : List (Piece Extent)) (e f : Extent) (xs : List (Piece Block)) (locals : ℕ) (b : Body) → block_size f ≡ block_size e
+      → size_onto known locals b (size_of (before ++ Whole e ∷ [])) ≡ size_of ((before ++ Whole e ∷ []) ++ seen xs)
+      → size_onto known locals b (both (size_of before) (block_size f)) ≡ size_of (before ++ Whole e ∷ seen xs)
+  sized-block before e f xs locals b same rest = sized-more before (Whole e ∷ []) (seen xs) locals b (same ∙ sym (size-block e)) rest
+
+  sized-list : (before : List (Piece Extent)) (ys xs : List (Piece Block)) (more : List (Piece Extent)) (locals : ℕ) (b : Body) {z : Size}
+      → seen ys ≡ more → z ≡ size_of more → size_onto known locals b (size_of (before ++ more)) ≡ size_of ((before ++ more) ++ seen xs)
+      → size_onto known locals b (both (size_of before) z) ≡ size_of (before ++ seen (ys ++ xs))
+  sized-list before ys xs more locals b are is rest =
+      sized-more before more (seen xs) locals b is rest
+      ∙ ap (λ zs. size_of (before ++ zs)) (ap (λ zs. zs ++ seen xs) (sym are) ∙ sym (seen-append as_extent ys xs))
 
   pub sized-is : (before : List (Piece Extent)) {locals : ℕ} {b : Body} {xs : List (Piece Block)} → IsList source out locals b xs
       → UsesOnly P R b → DynexecsOnly D b
@@ -161,51 +163,37 @@ module _ {source : Source} {out : Outside} (some : HasOperations out.exports) (c
   sized-is before nothing of on = ap size_of (sym (append-nil before))
   sized-is before {locals} (instr at i {b} {xs} d) of on =
       let items = expansion i.name i.numbers locals in
-      sized-run before items locals b xs (sized-is (before ++ map Operation items) d of on)
+      sized-list before (map Operation items) xs (map Operation items) locals b (seen-operations as_extent items) (sym (size-run items)) (sized-is _ d of on)
   sized-is before {locals} (exec at name {b} {ys} {xs} d f) of on =
-      ap (size_onto known locals b) (ap (both (size_of before)) (fits.size name ys of.0 d) ∙ sym (size-append before (seen ys)))
-      ∙ sized-is (before ++ seen ys) f of.1 on
-      ∙ ap size_of (append_assoc before (seen ys) (seen xs) ∙ ap (λ us. before ++ us) (sym (seen-append as_extent ys xs)))
+      sized-list before ys xs (seen ys) locals b refl (fits.size name ys of.0 d) (sized-is _ f of.1 on)
   sized-is before {locals} (call at name {b} {ys} {xs} d f) of on =
       let block = seen_as as_extent (block_of ys) in
-      ap (size_onto known locals b) (behind before _ _ (block-over (extent_of (known.size name)) block (agree-procedure name ys of.0 d)))
-      ∙ sized-is (before ++ Whole (as_extent.call block) ∷ []) f of.1 on
-      ∙ ap size_of (append_assoc before (Whole (as_extent.call block) ∷ []) (seen xs))
+      sized-block before (as_extent.call block) _ xs locals b (block-over (extent_of (known.size name)) block (agree-procedure name ys of.0 d))
+      (sized-is _ f of.1 on)
   sized-is before {locals} (procref at name {b} {ys} {xs} d f) of on =
       let items = digest_items (block_digest out.constants (block_of ys)) in
-      ap (λ n. size_onto known locals b (both (size_of before) (run_of n))) (sym (four-items out.constants (block_of ys) count))
-      ∙ sized-run before items locals b xs (sized-is (before ++ map Operation items) f of.1 on)
+      sized-list before (map Operation items) xs (map Operation items) locals b (seen-operations as_extent items)
+      (ap run_of (sym (four-items out.constants (block_of ys) count)) ∙ sym (size-run items)) (sized-is _ f of.1 on)
   sized-is before {locals} (syscall at name {callee} {b} {xs} found f) of on =
-      let block = seen_as as_extent callee in
-      ap (size_onto known locals b) (behind before _ _ (ap (λ e. block_size (as_extent.syscall e)) (fits.exported name callee found)))
-      ∙ sized-is (before ++ Whole (as_extent.syscall block) ∷ []) f of on
-      ∙ ap size_of (append_assoc before (Whole (as_extent.syscall block) ∷ []) (seen xs))
+      sized-block before (as_extent.syscall (seen_as as_extent callee)) _ xs locals b
+      (ap (λ e. block_size (as_extent.syscall e)) (fits.exported name callee found)) (sized-is _ f of on)
   sized-is before {locals} (dynexec at {b} {lists} {xs} ds f) of on =
       let block = seen_as as_extent (Dyn (blocks_from (map block_of lists))) in
-      ap (size_onto known locals b) (behind before known.dispatch block (block-agree known.dispatch block (fits.dispatch lists on.0 ds)))
-      ∙ sized-is (before ++ Whole block ∷ []) f of on.1
-      ∙ ap size_of (append_assoc before (Whole block ∷ []) (seen xs))
+      sized-block before block _ xs locals b (block-agree known.dispatch block (fits.dispatch lists on.0 ds)) (sized-is _ f of on.1)
   sized-is before {locals} (branches at {a} {e} {b} {ys} {zs} {xs} d k f) of on =
       let first = seen_as as_extent (block_of ys) in
       let second = seen_as as_extent (block_of zs) in
-      ap (size_onto known locals b)
-      (behind before _ _ (ap₂ (λ u w. block_size (as_extent.split (extent_of u) (extent_of w))) (sized-is [] d of.0 on.0) (sized-is [] k of.1 on.1)
-      ∙ block-over_two (extent_of (size_of (seen ys))) (extent_of (size_of (seen zs))) first second (agree d) (agree k)))
-      ∙ sized-is (before ++ Whole (as_extent.split first second) ∷ []) f of.2 on.2
-      ∙ ap size_of (append_assoc before (Whole (as_extent.split first second) ∷ []) (seen xs))
+      sized-block before (as_extent.split first second) _ xs locals b
+      (ap₂ (λ u w. block_size (as_extent.split (extent_of u) (extent_of w))) (sized-is [] d of.0 on.0) (sized-is [] k of.1 on.1)
+      ∙ block-over_two (extent_of (size_of (seen ys))) (extent_of (size_of (seen zs))) first second (agree d) (agree k)) (sized-is _ f of.2 on.2)
   sized-is before {locals} (loops at {a} {b} {ys} {xs} d f) of on =
       let turn = seen_as as_extent (block_of ys) in
-      ap (size_onto known locals b)
-      (behind before _ _ (ap (λ u. block_size (as_extent.loop (extent_of u))) (sized-is [] d of.0 on.0)
-      ∙ block-over (extent_of (size_of (seen ys))) turn (agree d)))
-      ∙ sized-is (before ++ Whole (as_extent.loop turn) ∷ []) f of.1 on.1
-      ∙ ap size_of (append_assoc before (Whole (as_extent.loop turn) ∷ []) (seen xs))
+      sized-block before (as_extent.loop turn) _ xs locals b
+      (ap (λ u. block_size (as_extent.loop (extent_of u))) (sized-is [] d of.0 on.0)
+      ∙ block-over (extent_of (size_of (seen ys))) turn (agree d)) (sized-is _ f of.1 on.1)
   sized-is before {locals} (repeated at n {a} {b} {ys} {xs} d f) of on =
-      ap (size_onto known locals b) (ap (λ s. both (size_of before) (times_size n s)) (sized-is [] d of.0 on.0) ∙ size-times n (seen ys) before)
-      ∙ sized-is (before ++ times n (seen ys)) f of.1 on.1
-      ∙ ap size_of (append_assoc before (times n (seen ys)) (seen xs)
-      ∙ ap (λ us. before ++ us) (sym
-      (seen-append as_extent (times n ys) xs ∙ ap (λ us. us ++ seen xs) (seen-times as_extent n ys))))
+      sized-list before (times n ys) xs (times n (seen ys)) locals b (seen-times as_extent n ys)
+      (ap (times_size n) (sized-is [] d of.0 on.0) ∙ sym (size-copies n (seen ys))) (sized-is _ f of.1 on.1)
 
   locals-sized : (n : ℕ) (b : Body) (xs : List (Piece Block)) → IsList source out n b xs → UsesOnly P R b → DynexecsOnly D b
       → procedure_size known n b ≡ size_of (seen (with_locals n xs))
@@ -219,32 +207,7 @@ module _ {source : Source} {out : Outside} (some : HasOperations out.exports) (c
       ∙ ap size_of (append_assoc (map Operation up) (seen xs) (map Operation down)
       ∙ ap (λ us. map Operation up ++ us) (sym (seen-append as_extent xs (map Operation down))))
 
-  -- the size of a procedure's list, and the extent of its block
+  -- the size of a procedure's list
   pub procedure-sized : (p : Procedure) (xs : List (Piece Block)) → IsList source out p.locals p.body xs → UsesOnly P R p.body → DynexecsOnly D p.body
       → procedure_size known p.locals p.body ≡ size_of (seen (with_locals p.locals xs))
   procedure-sized p xs d of on = locals-sized p.locals p.body xs d of on
-
-  pub procedure-extent : (p : Procedure) (xs : List (Piece Block)) → IsList source out p.locals p.body xs → UsesOnly P R p.body → DynexecsOnly D p.body
-      → Agree (extent_of (procedure_size known p.locals p.body)) (seen_as as_extent (block_of (with_locals p.locals xs)))
-  procedure-extent p xs d of on =
-      let zs = with_locals p.locals xs in
-      subst (λ z. Agree (extent_of z) (seen_as as_extent (block_of zs))) (sym (procedure-sized p xs d of on))
-      (subst (Agree (extent_of (size_of (seen zs)))) (sym (seen-block as_extent zs))
-      (extent-whole (seen zs) (solid-locals p.locals xs (list-solid some d))))
-
-  -- whether the limits are passed, told by the extent
-  pub procedure-operations : (p : Procedure) (xs : List (Piece Block)) → IsList source out p.locals p.body xs → UsesOnly P R p.body → DynexecsOnly D p.body
-      → (524288 < (extent_of (procedure_size known p.locals p.body)).operations)
-      ↔ (524288 < seen_as as_operations (block_of (with_locals p.locals xs)))
-  procedure-operations p xs d of on =
-      let same = (procedure-extent p xs d of on).operations in
-      let is = operations-block (block_of (with_locals p.locals xs)) in
-      (λ h. omega arith, λ h. omega arith)
-
-  pub procedure-height : (p : Procedure) (xs : List (Piece Block)) → IsList source out p.locals p.body xs → UsesOnly P R p.body → DynexecsOnly D p.body
-      → (extent_of (procedure_size known p.locals p.body)).operations ≤ 524288
-      → (1024 < (extent_of (procedure_size known p.locals p.body)).height) ↔ (1024 < seen_as as_height (block_of (with_locals p.locals xs)))
-  procedure-height p xs d of on few =
-      let same = (procedure-extent p xs d of on).height few in
-      let is = height-block (block_of (with_locals p.locals xs)) in
-      (λ h. omega arith, λ h. omega arith)

@@ -1,12 +1,13 @@
 -- The uses of a source of which none leads nowhere or back.
-use Rattle.masm_tables.proofs.Words.{◌≡◌, ℕ, ◌<◌, true, false, List, [], length, get_or, take, map, slice_get, Option, Some, None, refl, sym, subst, arith}
-use Rattle.masm_tables.proofs.Words.{length-map, flat_map, Contains, option_to_list, Body, Procedure, Source, IsClosed, unknown, not_in_kernel, IsUseOrder}
-use Rattle.masm_tables.proofs.Words.{Use, Own, Kernel, uses_of, all_uses, first_place, in_all, place_within, UsesOnly, SyscallsOnly, uses_only, syscalls_only}
+use Rattle.masm_tables.proofs.Words.{◌≡◌, ℕ, ◌<◌, true, false, List, [], length, get_or, take, slice_get, Option, Some, None, refl, sym, subst}
+use Rattle.masm_tables.proofs.Words.{flat_map, Contains, option_to_list, Body, Procedure, Source, IsClosed, unknown, not_in_kernel, IsUseOrder}
+use Rattle.masm_tables.proofs.Words.{Use, Own, Kernel, uses_of, all_uses, first_place, in_all, UsesOnly, SyscallsOnly, uses_only, syscalls_only}
 use Rattle.masm_tables.proofs.Words.{Block, Exported, first_export, names_of}
 use Rattle.std.proofs.lemmas.Grind.{flat_map-append}
 use Rattle.std.proofs.lemmas.List.Elements.{Contains-append_left, Contains-append_right}
 use Rattle.masm_names.specs.declared.refusal.LinkCause.TheVariants as causes
 use Rattle.masm_uses.specs.Plans.{NeedsIn, IsWanted, of_main, IsReferred, by_main}
+use Rattle.masm_uses.proofs.UsedLemmas.{procedure_within}
 use Rattle.masm_tables.proofs.Finding.{export_none}
 
 abbrev uses_in : Procedure → List Use
@@ -51,52 +52,46 @@ module _ (source : Source) where
         by (Some block) is = (block, is)
 
     -- each use in a body leads to a place of which this holds
-    leads_in : (Done : ℕ → Type 0) (b : Body) → ((u : Use) → Contains (uses_of b) u → Contains (all_uses source) u)
-        → ((u : Use) (j : ℕ) → Contains (uses_of b) u → u.kind ≡ Own → first_place source.procs u.name ≡ Some j → Done j)
-        → (u : Use) → Contains (uses_of b) u → u.kind ≡ Own → Behind source.procs Done u.name
-    leads_in Done b among done u has own =
-        let leads = own_leads u (among u has) own in
-        (leads.0, leads.1, done u leads.0 has own leads.1)
+    uses_told : (Held Known : ℕ → Type 0) (b : Body) → ((u : Use) → Contains (uses_of b) u → Contains (all_uses source) u)
+        → ((u : Use) (j : ℕ) → Contains (uses_of b) u → u.kind ≡ Own → first_place source.procs u.name ≡ Some j → u.refers ≡ false → Held j)
+        → ((u : Use) (j : ℕ) → Contains (uses_of b) u → u.kind ≡ Own → first_place source.procs u.name ≡ Some j → u.refers ≡ true → Known j)
+        → UsesOnly (Behind source.procs Held) (Behind source.procs Known) b
+    uses_told Held Known b among held known =
+        uses_only (Behind source.procs Held) (Behind source.procs Known) b
+        (λ u has own runs. let leads = own_leads u (among u has) own in (leads.0, leads.1, held u leads.0 has own leads.1 runs))
+        (λ u has own refers. let leads = own_leads u (among u has) own in (leads.0, leads.1, known u leads.0 has own leads.1 refers))
 
     pub uses_behind : (order : List ℕ) → IsUseOrder source order → (k : ℕ) (p : Procedure) → k < length order
         → slice_get source.procs (get_or order k 0) ≡ Some p
         → UsesOnly (Behind source.procs (Contains (take k order))) (Behind source.procs (Contains (take k order))) p.body
     uses_behind order is k p below here =
-        let leads = leads_in (Contains (take k order)) p.body (λ u has. among_procs (get_or order k 0) p u here has)
-        (λ u j has own to. is.behind k u j below (record { procedure = p; here = here; among = has; own = own; target = to })) in
-        uses_only (Behind source.procs (Contains (take k order))) (Behind source.procs (Contains (take k order))) p.body
-        (λ u has own runs. leads u has own) (λ u has own refers. leads u has own)
+        let done : (u : Use) (j : ℕ) → Contains (uses_of p.body) u → u.kind ≡ Own → first_place source.procs u.name ≡ Some j
+        → Contains (take k order) j =
+        λ u j has own to. is.behind k u j below (record { procedure = p; here = here; among = has; own = own; target = to }) in
+        uses_told (Contains (take k order)) (Contains (take k order)) p.body (λ u has. among_procs (get_or order k 0) p u here has)
+        (λ u j has own to runs. done u j has own to) (λ u j has own to refers. done u j has own to)
 
     pub uses_main : (order : List ℕ) → IsUseOrder source order → (p : Procedure) → source.main ≡ Some p
         → UsesOnly (Behind source.procs (Contains order)) (Behind source.procs (Contains order)) p.body
     uses_main order is p main =
-        let leads = leads_in (Contains order) p.body (λ u has. among_main p u main has)
-        (λ u j has own to. is.all j
-        (let below = place_within (map (λ (q : Procedure). q.name) source.procs) u.name j to in
-        let count = length-map source.procs (λ (q : Procedure). q.name) in
-        omega arith)) in
-        uses_only (Behind source.procs (Contains order)) (Behind source.procs (Contains order)) p.body
-        (λ u has own runs. leads u has own) (λ u has own refers. leads u has own)
+        uses_told (Contains order) (Contains order) p.body (λ u has. among_main p u main has)
+        (λ u j has own to runs. is.all j (procedure_within source.procs u.name j to))
+        (λ u j has own to refers. is.all j (procedure_within source.procs u.name j to))
 
     -- the same where the lists of the procedures that are used, and the digests, have these places
     pub uses_held : (Held Known : ℕ → Type 0) (place : ℕ) (p : Procedure) → slice_get source.procs place ≡ Some p
         → ((j : ℕ) → NeedsIn source.procs false place j → Held j) → ((j : ℕ) → NeedsIn source.procs true place j → Known j)
         → UsesOnly (Behind source.procs Held) (Behind source.procs Known) p.body
     uses_held Held Known place p here held known =
-        uses_only (Behind source.procs Held) (Behind source.procs Known) p.body
-        (λ u has own runs.
-        let leads = own_leads u (among_procs place p u here has) own in
-        (leads.0, leads.1, held leads.0 (u, record { procedure = p; here = here; among = has; own = own; target = leads.1 }, runs)))
-        (λ u has own refers.
-        let leads = own_leads u (among_procs place p u here has) own in
-        (leads.0, leads.1, known leads.0 (u, record { procedure = p; here = here; among = has; own = own; target = leads.1 }, refers)))
+        uses_told Held Known p.body (λ u has. among_procs place p u here has)
+        (λ u j has own to runs. held j (u, record { procedure = p; here = here; among = has; own = own; target = to }, runs))
+        (λ u j has own to refers. known j (u, record { procedure = p; here = here; among = has; own = own; target = to }, refers))
 
     pub uses_wanted : (p : Procedure) → source.main ≡ Some p
         → UsesOnly (Behind source.procs (IsWanted source)) (Behind source.procs (IsReferred source)) p.body
     uses_wanted p main =
-        uses_only (Behind source.procs (IsWanted source)) (Behind source.procs (IsReferred source)) p.body
-        (λ u has own runs. let leads = own_leads u (among_main p u main has) own in (leads.0, leads.1, of_main p u main has own runs leads.1))
-        (λ u has own refers. let leads = own_leads u (among_main p u main has) own in (leads.0, leads.1, by_main p u main has own refers leads.1))
+        uses_told (IsWanted source) (IsReferred source) p.body (λ u has. among_main p u main has)
+        (λ u j has own to runs. of_main p u main has own runs to) (λ u j has own to refers. by_main p u main has own refers to)
 
     pub syscalls_procs : (exports : List Exported) → names ≡ names_of exports → (place : ℕ) (p : Procedure) → slice_get source.procs place ≡ Some p
         → SyscallsOnly (IsExportName exports) p.body

@@ -1,8 +1,8 @@
 -- The blocks that a dynexec may run, by the places of their procedures.
-use Rattle.masm_tables.proofs.Words.{◌≡◌, ℕ, ◌<◌, Bool, true, List, [], ◌∷◌, length, map, Some, Vec, Global, inl, inr, refl, sym, ap, ap₂, subst, ◌∙◌, arith}
-use Rattle.masm_tables.proofs.Words.{length-map, same_Some, All, AllByRecursion, AllZip, Contains, filter, Procedure, Source, IsClosed, Use, uses_of}
+use Rattle.masm_tables.proofs.Words.{◌≡◌, ℕ, ◌<◌, Bool, true, List, [], ◌∷◌, length, map, Some, Vec, Global, inl, inr, refl, sym, ap, ap₂, subst, ◌∙◌}
+use Rattle.masm_tables.proofs.Words.{slice_get, same_Some, All, AllByRecursion, AllZip, Contains, filter, Procedure, Source, IsClosed, Use, uses_of}
 use Rattle.masm_tables.proofs.Words.{all_uses, bodies_of, each_once, target_names, first_place, IsTarget, cons_cases, cons_here, refs_are_own, all_in}
-use Rattle.masm_tables.proofs.Words.{place_within, Extent, Block, as_tree, whole, dispatch_of, list_at, Outside, ListOf, own, ListsOf, no_list, list_before}
+use Rattle.masm_tables.proofs.Words.{Extent, Block, as_tree, whole, dispatch_of, list_at, Outside, ListOf, own, IsList, ListsOf, no_list, list_before}
 use Rattle.masm_tables.proofs.Words.{with_locals, seen-targets, dispatch_extent, size_at, as_extent, extent_of, size_of, AreSizes, IsListAt, IsDispatch}
 use Rattle.std.proofs.lemmas.List.Elements.{All-contains, All-contains_itself, All-filter, All-from_recursion, Contains-append_right, filter_passes}
 use Rattle.block_tree.specs.Trees as trees
@@ -13,6 +13,7 @@ use Rattle.masm_size.specs.declared.shape.Size as shape
 use Rattle.masm_size.proofs.Dispatches.{agree-dyn}
 use Rattle.masm_size.proofs.SizeLaws.{Agree, extent-whole}
 use Rattle.masm_size.proofs.Sized.{HasOperations, list-solid, solid-locals}
+use Rattle.masm_uses.proofs.UsedLemmas.{procedure_within, unmapped_in}
 use Rattle.masm_tables.proofs.Closed.{own_leads}
 use Rattle.masm_tables.proofs.Finding.{procedure_found}
 
@@ -23,13 +24,6 @@ filtered p xs x has = (
   All-contains (Contains xs) (filter p xs) x (All-filter p (Contains xs) xs (All-contains_itself xs)) has,
   All-contains (λ y. p y ≡ true) (filter p xs) x (filter_passes p xs) has,
 )
-
-unmapped : {X Y : Type 0} (f : X → Y) (xs : List X) (y : Y) → Contains (map f xs) y → (x : X) × Contains xs x × (f x ≡ y)
-unmapped f [] y has = absurd (omega (arith, has.1))
-unmapped f (x ∷ xs) y has = elim (cons_cases (f x) (map f xs) y has) [
-  | inl is ↦ (x, cons_here x xs, is)
-  | inr later ↦ let found = unmapped f xs y later in (found.0, Contains-append_right (x ∷ []) xs found.0 found.1, found.2)
-]
 
 once_in : (names : List (List ℕ)) (name : List ℕ) → Contains (each_once names) name → Contains names name
 once_in [] name has = has
@@ -57,9 +51,9 @@ module _ (source : Source) where
   target_named : (name : List ℕ) → Contains (target_names source) name → IsTargetName name
   target_named name has =
       let refers = filter (λ (u : Use). u.refers) (all_uses source) in
-      let found = unmapped (λ (u : Use). u.name) refers name (once_in (map (λ (u : Use). u.name) refers) name has) in
+      let found = unmapped_in (λ (u : Use). u.name) refers name (once_in (map (λ (u : Use). u.name) refers) name has) in
       let kept = filtered (λ (u : Use). u.refers) (all_uses source) found.0 found.1 in
-      (found.0, kept.0, kept.1, found.2)
+      (found.0, kept.0, kept.1, sym found.2)
 
   target_at : (name : List ℕ) (j : ℕ) → IsTargetName name → first_place source.procs name ≡ Some j → IsTarget source j
   target_at name j is there =
@@ -76,9 +70,7 @@ module _ (source : Source) where
       (leads.0, there, target_at name leads.0 is there)
 
   pub target_within : (j : ℕ) → IsTarget source j → j < length source.procs
-  target_within j target =
-      let within = place_within (map (λ (p : Procedure). p.name) source.procs) target.by.name j target.named in
-      let count = length-map source.procs (λ (p : Procedure). p.name) in omega arith
+  target_within j target = procedure_within source.procs target.by.name j target.named
 
   -- the places of targets, and what is told of them, place by place
   module _ (targets : List ℕ) (same : map Some targets ≡ map (first_place source.procs) (target_names source)) where
@@ -89,28 +81,32 @@ module _ (source : Source) where
     below_names (name ∷ names) (j ∷ places) is =
         let there : first_place source.procs name ≡ Some j = cc in
         let rest : map Some places ≡ map (first_place source.procs) names = cc in
-        let within = place_within (map (λ (p : Procedure). p.name) source.procs) name j there in
-        let count = length-map source.procs (λ (p : Procedure). p.name) in
-        (omega arith, below_names names places rest)
+        (procedure_within source.procs name j there, below_names names places rest)
 
     pub targets_below : All (λ j. j < length source.procs) targets
     targets_below = All-from_recursion (λ j. j < length source.procs) targets (below_names (target_names source) targets same)
 
     module _ (out : Outside) {X Y : Type 0} (f : ℕ → X) (g : List (Piece Block) → Y) (R : X → Y → Type 0)
-        (each : (j : ℕ) (name : List ℕ) (ys : List (Piece Block)) → IsTarget source j → first_place source.procs name ≡ Some j
-        → ListOf source out name ys → R (f j) (g ys)) where
+        (each : (j : ℕ) (p : Procedure) (ys : List (Piece Block)) → IsTarget source j → slice_get source.procs j ≡ Some p
+        → IsList source out p.locals p.body ys → R (f j) (g (with_locals p.locals ys))) where
+      named : (j : ℕ) (name : List ℕ) (ys : List (Piece Block)) → IsTarget source j → first_place source.procs name ≡ Some j
+          → ListOf source out name ys → R (f j) (g ys)
+      named j name _ target there (own _ {p} {ys} found d) =
+          let q = procedure_found source.procs name j there in
+          each j p ys target (q.1 ∙ ap Some (same_Some q.0 p (sym q.2 ∙ found))) d
+
       zip_names : (names : List (List ℕ)) → ((name : List ℕ) → Contains names name → IsTargetName name) → (places : List ℕ)
           → map Some places ≡ map (first_place source.procs) names → {lists : List (List (Piece Block))} → ListsOf source out names lists
           → AllZip R (map f places) (map g lists)
-      zip_names _ named [] is no_list = tt
-      zip_names _ named (j ∷ places) is no_list = cc
-      zip_names _ named [] is (list_before name d ds) = cc
-      zip_names _ named (j ∷ places) is (list_before name {names} {ys} d ds) =
+      zip_names _ asked [] is no_list = tt
+      zip_names _ asked (j ∷ places) is no_list = cc
+      zip_names _ asked [] is (list_before name d ds) = cc
+      zip_names _ asked (j ∷ places) is (list_before name {names} {ys} d ds) =
           let there : first_place source.procs name ≡ Some j = cc in
           let rest : map Some places ≡ map (first_place source.procs) names = cc in
-          let here = named name (cons_here name names) in (
-            each j name ys (target_at name j here there) there d,
-            zip_names names (λ n has. named n (Contains-append_right (name ∷ []) names n has)) places rest ds,
+          let here = asked name (cons_here name names) in (
+            named j name ys (target_at name j here there) there d,
+            zip_names names (λ n has. asked n (Contains-append_right (name ∷ []) names n has)) places rest ds,
           )
 
       pub zip_targets : {lists : List (List (Piece Block))} → ListsOf source out (target_names source) lists → AllZip R (map f targets) (map g lists)
@@ -121,15 +117,9 @@ module _ (source : Source) where
         → IsDispatch source out (dispatch_of lists targets)
     dispatch_is out lists held blocks ds =
         ap (λ ts. trees.Dyn (trees.targets_from ts))
-        (zip_same _ _ (zip_targets out (λ j. whole as_tree (list_at lists (Some j))) (λ ys. seen_as as_tree (block_of ys)) (λ t u. t ≡ u) each ds)
+        (zip_same _ _ (zip_targets out (λ j. whole as_tree (list_at lists (Some j))) (λ ys. seen_as as_tree (block_of ys)) (λ t u. t ≡ u)
+        (λ j p ys target is d. ap (whole as_tree) (held j target p ys is d) ∙ sym (seen-block as_tree (with_locals p.locals ys))) ds)
         ∙ sym (seen-targets as_tree blocks))
-      where
-        each : (j : ℕ) (name : List ℕ) (ys : List (Piece Block)) → IsTarget source j → first_place source.procs name ≡ Some j
-            → ListOf source out name ys → whole as_tree (list_at lists (Some j)) ≡ seen_as as_tree (block_of ys)
-        each j name _ target there (own _ {p} {ys} found d) =
-            let q = procedure_found source.procs name j there in
-            let is : q.0 ≡ p = same_Some q.0 p (sym q.2 ∙ found) in
-            ap (whole as_tree) (held j target p ys (q.1 ∙ ap Some is) d) ∙ sym (seen-block as_tree (with_locals p.locals ys))
 
     -- the extent of a dynexec's block, where the sizes of all targets are known
     pub dispatch_extent_is : (out : Outside) → HasOperations out.exports → (done : List ℕ) (sizes : List shape.Size) → AreSizes source out done sizes
@@ -139,12 +129,10 @@ module _ (source : Source) where
         (agree-dyn (map (λ j. extent_of (size_at sizes (Some j))) targets) (map (λ ys. seen_as as_extent (block_of ys)) blocks)
         (zip_targets out (λ j. extent_of (size_at sizes (Some j))) (λ ys. seen_as as_extent (block_of ys)) Agree each ds))
       where
-        each : (j : ℕ) (name : List ℕ) (ys : List (Piece Block)) → IsTarget source j → first_place source.procs name ≡ Some j
-            → ListOf source out name ys → Agree (extent_of (size_at sizes (Some j))) (seen_as as_extent (block_of ys))
-        each j name _ target there (own _ {p} {ys} found d) =
-            let q = procedure_found source.procs name j there in
-            let is : q.0 ≡ p = same_Some q.0 p (sym q.2 ∙ found) in
+        each : (j : ℕ) (p : Procedure) (ys : List (Piece Block)) → IsTarget source j → slice_get source.procs j ≡ Some p
+            → IsList source out p.locals p.body ys → Agree (extent_of (size_at sizes (Some j))) (seen_as as_extent (block_of (with_locals p.locals ys)))
+        each j p ys target is d =
             let zs = with_locals p.locals ys in
             let seen = seen_pieces (seen_as as_extent) zs in
-            subst (λ z. Agree (extent_of z) (seen_as as_extent (block_of zs))) (sym (known j p ys (among j target) (q.1 ∙ ap Some is) d))
+            subst (λ z. Agree (extent_of z) (seen_as as_extent (block_of zs))) (sym (known j p ys (among j target) is d))
             (subst (Agree (extent_of (size_of seen))) (sym (seen-block as_extent zs)) (extent-whole seen (solid-locals p.locals ys (list-solid some d))))

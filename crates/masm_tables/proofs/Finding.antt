@@ -1,5 +1,5 @@
 -- Procedures and exports by their names.
-use Rattle.masm_tables.proofs.Words.{◌≡◌, ℕ, suc, ◌+◌, ◌≤◌, cond, List, [], ◌∷◌, Option, Some, None, inl, inr, refl, sym, ap, ap₂, subst, ◌∙◌, bytes_eq}
+use Rattle.masm_tables.proofs.Words.{◌≡◌, ℕ, suc, ◌+◌, ◌≤◌, cond, List, [], ◌∷◌, Option, Some, None, inl, inr, refl, ap, ap₂, subst, ◌∙◌, bytes_eq}
 use Rattle.masm_tables.proofs.Words.{slice_get, arith, cases_Bool, same_Some, find, Contains, option_map, tree_of, KernelProc, Block, as_tree, Exported}
 use Rattle.masm_tables.proofs.Words.{first_procedure, first_export, as_extent, Procedure, first_place, cons_cases, AreExports, names_in, names_of}
 use Rattle.std.proofs.lemmas.Slice.Eq.{bytes_eq-Decides}
@@ -10,13 +10,8 @@ pub procedure_found : (procs : List Procedure) (name : List ℕ) (j : ℕ) → f
     → (p : Procedure) × (slice_get procs j ≡ Some p) × (first_procedure procs name ≡ Some p)
 procedure_found [] name j e = cc
 procedure_found (p ∷ procs) name j e = elim (cases_Bool (bytes_eq p.name name)) [
-  | inl same ↦
-      let here : Some 0 ≡ Some j = sym (ap (λ b. cond b (Some 0) (option_map (λ i. i + 1) (first_place procs name))) same) ∙ e in
-      (p, subst (λ k. slice_get (p ∷ procs) k ≡ Some p) (same_Some 0 j here) refl, ap (λ b. cond b (Some p) (first_procedure procs name)) same)
-  | inr other ↦
-      later (first_place procs name) refl (λ i. procedure_found procs name i)
-      (sym (ap (λ b. cond b (Some 0) (option_map (λ i. i + 1) (first_place procs name))) other) ∙ e)
-      (ap (λ b. cond b (Some p) (first_procedure procs name)) other)
+  | inl same ↦ (p, subst (λ k. slice_get (p ∷ procs) k ≡ Some p) (same_Some 0 j (rw same at e)) refl, rw same refl)
+  | inr other ↦ later (first_place procs name) refl (λ i. procedure_found procs name i) (rw other at e) (rw other refl)
 ]
   where
     later : (o : Option ℕ) → first_place procs name ≡ o
@@ -43,7 +38,7 @@ export_found [] kernel are name block e = cc
 export_found (x ∷ exports) [] are name block e = absurd are
 export_found (x ∷ exports) (p ∷ kernel) are name block e = elim (cases_Bool (bytes_eq x.name name)) [
   | inl same ↦
-      let is : x.block ≡ block = same_Some x.block block (sym (ap (λ b. cond b (Some x.block) (first_export exports name)) same) ∙ e) in
+      let is : x.block ≡ block = same_Some x.block block (rw same at e) in
       record {
         proc = p;
         found = ap (λ b. cond b (Some p) (find (λ q. bytes_eq q.name name) kernel)) (ap (λ n. bytes_eq n name) are.0.name ∙ same);
@@ -52,7 +47,7 @@ export_found (x ∷ exports) (p ∷ kernel) are name block e = elim (cases_Bool 
         some = subst (λ b. 1 ≤ seen_as as_operations b) is are.0.some;
       }
   | inr other ↦
-      let rest = export_found exports kernel are.1 name block (sym (ap (λ b. cond b (Some x.block) (first_export exports name)) other) ∙ e) in
+      let rest = export_found exports kernel are.1 name block (rw other at e) in
       record {
         proc = rest.proc;
         found = ap (λ b. cond b (Some p) (find (λ q. bytes_eq q.name name) kernel)) (ap (λ n. bytes_eq n name) are.0.name ∙ other) ∙ rest.found;
@@ -72,9 +67,9 @@ names_same (x ∷ exports) (p ∷ kernel) are = ap₂ (λ n ns. n ∷ ns) are.0.
 pub export_none : (exports : List Exported) (name : List ℕ) → first_export exports name ≡ None → ¬ (Contains (names_of exports) name)
 export_none [] name e h = absurd (omega (arith, h.1))
 export_none (x ∷ exports) name e h = elim (cases_Bool (bytes_eq x.name name)) [
-  | inl same ↦ let some = ap (λ b. cond b (Some x.block) (first_export exports name)) same in cc
+  | inl same ↦ let some : Some x.block ≡ None = rw same at e in cc
   | inr other ↦ elim (cons_cases x.name (names_of exports) name h) [
     | inl is ↦ let same = (bytes_eq-Decides x.name name).1 is in cc
-    | inr later ↦ export_none exports name (sym (ap (λ b. cond b (Some x.block) (first_export exports name)) other) ∙ e) later
+    | inr later ↦ export_none exports name (rw other at e) later
   ]
 ]

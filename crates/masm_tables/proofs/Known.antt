@@ -63,6 +63,16 @@ read_here ast place p within is =
 
 module _ (source : Source) (out : Outside) (kernel : List KernelProc) (are : AreExports out.exports kernel)
     (names : Names) (places : (name : List ℕ) → place_at names name ≡ first_place source.procs name) where
+  -- what a table tells of procedures by their places it tells by their names
+  by_name : {T : Type 0} (value : List (Piece Block) → T) (table : Option ℕ → T) {Done : ℕ → Type 0}
+      → ((q : ℕ) → Done q → (p : Procedure) (ys : List (Piece Block)) → slice_get source.procs q ≡ Some p → IsList source out p.locals p.body ys
+      → table (Some q) ≡ value (with_locals p.locals ys))
+      → (name : List ℕ) (ys : List (Piece Block)) → Behind source.procs Done name → ListOf source out name ys
+      → table (place_at names name) ≡ value ys
+  by_name value table known name _ behind (own _ {p} {ys} found d) =
+      let q = procedure_found source.procs name behind.0 behind.1 in
+      ap table (places name ∙ behind.1) ∙ known behind.0 behind.2 p ys (q.1 ∙ ap Some (same_Some q.0 p (sym q.2 ∙ found))) d
+
   pub has_operations : HasOperations out.exports
   has_operations name block found = (export_found out.exports kernel are name block found).some
 
@@ -70,42 +80,21 @@ module _ (source : Source) (out : Outside) (kernel : List KernelProc) (are : Are
   pub sizes_fit : (done : List ℕ) (sizes : List shape.Size) (dispatch : Extent) → AreSizes source out done sizes
       → SizesFit source out (Behind source.procs (Contains done)) (IsDispatchExtent source out dispatch) (sizes_known names sizes dispatch kernel)
   sizes_fit done sizes dispatch known = record {
-    size = size_fits;
+    size = by_name (λ pieces. size_of (seen_pieces (seen_as as_extent) pieces)) (size_at sizes) (λ q has p ys is d. known q p ys has is d);
     exported = λ name block found.
         let e = export_found out.exports kernel are name block found in
         ap (λ o. unwrap_or (option_map (λ (p : KernelProc). p.extent) o) (extent 1 1)) e.found ∙ e.extent;
     dispatch = λ blocks is ds. is blocks ds;
   }
-    where
-      size_fits : (name : List ℕ) (ys : List (Piece Block)) → Behind source.procs (Contains done) name → ListOf source out name ys
-          → size_at sizes (place_at names name) ≡ size_of (seen_pieces (seen_as as_extent) ys)
-      size_fits name _ behind (own _ {p} {ys} found d) =
-          let q = procedure_found source.procs name behind.0 behind.1 in
-          let same : q.0 ≡ p = same_Some q.0 p (sym q.2 ∙ found) in
-          ap (size_at sizes) (places name ∙ behind.1) ∙ known behind.0 p ys behind.2 (q.1 ∙ ap Some same) d
 
   -- tables of lists and of digests tell them by the names
   module _ (Held Known : ℕ → Type 0) (lists : List (Vec piece.Piece Global)) (digests : List (List ℕ)) (dispatch : Option code.Tree)
       (held : (q : ℕ) → Held q → IsListAt source out lists q) (known : (q : ℕ) → Known q → IsDigestAt source out digests q) where
-    list_fits : (name : List ℕ) (ys : List (Piece Block)) → Behind source.procs Held name → ListOf source out name ys
-        → list_at lists (place_at names name) ≡ seen_pieces (seen_as as_tree) ys
-    list_fits name _ behind (own _ {p} {ys} found d) =
-        let q = procedure_found source.procs name behind.0 behind.1 in
-        let same : q.0 ≡ p = same_Some q.0 p (sym q.2 ∙ found) in
-        ap (list_at lists) (places name ∙ behind.1) ∙ held behind.0 behind.2 p ys (q.1 ∙ ap Some same) d
-
-    digest_fits : (name : List ℕ) (ys : List (Piece Block)) → Behind source.procs Known name → ListOf source out name ys
-        → digest_at digests (place_at names name) ≡ block_digest out.constants (block_of ys)
-    digest_fits name _ behind (own _ {p} {ys} found d) =
-        let q = procedure_found source.procs name behind.0 behind.1 in
-        let same : q.0 ≡ p = same_Some q.0 p (sym q.2 ∙ found) in
-        ap (digest_at digests) (places name ∙ behind.1) ∙ known behind.0 behind.2 p ys (q.1 ∙ ap Some same) d
-
     lists_fit : Fits as_tree source out (Behind source.procs Held) (Behind source.procs Known) (IsDispatch source out (dispatch_in dispatch))
         (lists_known names lists digests dispatch kernel)
     lists_fit = record {
-      list = list_fits;
-      digest = digest_fits;
+      list = by_name (seen_pieces (seen_as as_tree)) (list_at lists) held;
+      digest = by_name (λ ys. block_digest out.constants (block_of ys)) (digest_at digests) known;
       exported = λ name block found.
           let e = export_found out.exports kernel are name block found in
           ap (λ o. unwrap_or (option_map (λ (p : KernelProc). tree_of p.tree) o) (trees.Opaque zero_word)) e.found ∙ e.tree;
@@ -149,7 +138,7 @@ module _ (source : Source) (out : Outside) (kernel : List KernelProc) (are : Are
         (uses_behind source closed_names closed order is k p below here) (dynexecs_only D p.body asked)
         ∙ ap (λ r. size_of (seen_pieces (seen_as as_extent) (with_locals r.locals pieces))) same)))
 
-  -- A step of a plan: a list is built where the lists and digests that it needs are kept, and some lists are taken.
+  -- A step of a plan: a list is built where the lists and digests that it needs are kept.
   module _ (closed_names : List (List ℕ)) (closed : IsClosed source closed_names) (place : ℕ) (p : Procedure)
       (here : slice_get source.procs place ≡ Some p) (lists : List (Vec piece.Piece Global)) (digests : List (List ℕ)) (dispatch : Option code.Tree)
       (needs : (q : ℕ) → NeedsIn source.procs false place q → IsListAt source out lists q)
@@ -158,7 +147,7 @@ module _ (source : Source) (out : Outside) (kernel : List KernelProc) (are : Are
     abbrev built : List (Piece trees.Tree)
     built = with_locals p.locals (flat_with as_tree (lists_known names lists digests dispatch kernel) p.locals p.body)
 
-    built-is : (q : Procedure) (pieces : List (Piece Block)) → slice_get source.procs place ≡ Some q
+    pub built-is : (q : Procedure) (pieces : List (Piece Block)) → slice_get source.procs place ≡ Some q
         → IsList source out q.locals q.body pieces → built ≡ seen_pieces (seen_as as_tree) (with_locals q.locals pieces)
     built-is q pieces there d =
         let same : p ≡ q = same_Some p q (sym here ∙ there) in
@@ -168,41 +157,42 @@ module _ (source : Source) (out : Outside) (kernel : List KernelProc) (are : Are
         (uses_held source closed_names closed (IsListAt source out lists) (IsDigestAt source out digests) place p here needs refers) asked
         ∙ ap (λ r. seen_pieces (seen_as as_tree) (with_locals r.locals pieces)) same
 
-    -- what stands at the step's place when the list is put there
-    list_here : (new : List (Vec piece.Piece Global)) (list : Vec piece.Piece Global) → slice_get new place ≡ Some list → pieces_of list.items ≡ built
-        → IsListAt source out new place
-    list_here new list at_place is r pieces there d =
-        ap (λ o. unwrap_or (option_map (λ (v : Vec piece.Piece Global). pieces_of v.items) o) []) at_place ∙ (is ∙ built-is r pieces there d)
+-- A table behind a step that puts something at its place, or nothing.
+module _ (source : Source) (out : Outside) (place : ℕ) {X T : Type 0} (table : Option X → T) (value : List (Piece Block) → T) where
+  abbrev Tells : List X → ℕ → Type 0
+  Tells xs q =
+      (p : Procedure) (pieces : List (Piece Block)) → slice_get source.procs q ≡ Some p → IsList source out p.locals p.body pieces
+      → table (slice_get xs q) ≡ value (with_locals p.locals pieces)
 
-    pub list_step : (new : List (Vec piece.Piece Global)) (wanted : Bool) (Stays : ℕ → Type 0)
-        → Puts wanted place (λ (list : Vec piece.Piece Global). pieces_of list.items ≡ built) Stays lists new
-        → (q : ℕ) → Stays q → IsListAt source out lists q ⊎ ((q ≡ place) × (wanted ≡ true)) → IsListAt source out new q
-    list_step new wanted Stays puts q stays (inr at) =
-        let put = puts.put at.1 in
-        subst (IsListAt source out new) (sym at.0) (list_here new put.0 put.1 put.2)
-    list_step new wanted Stays puts q stays (inl known) = elim (put_cases wanted place _ Stays lists new puts q stays) [
-      | inl same ↦ λ r pieces there d.
-          ap (λ o. unwrap_or (option_map (λ (v : Vec piece.Piece Global). pieces_of v.items) o) []) same ∙ known r pieces there d
-      | inr at ↦
+  pub table_step : {old new : List X} {wanted : Bool} {Is : X → Type 0} {Stays : ℕ → Type 0} → Puts wanted place Is Stays old new
+      → ((x : X) → Is x → (p : Procedure) (pieces : List (Piece Block)) → slice_get source.procs place ≡ Some p
+      → IsList source out p.locals p.body pieces → table (Some x) ≡ value (with_locals p.locals pieces))
+      → (q : ℕ) → Stays q → Tells old q ⊎ ((q ≡ place) × (wanted ≡ true)) → Tells new q
+  table_step {old = old} {new = new} {wanted = wanted} puts made q stays was = elim was [
+    | inl known ↦ elim (put_cases puts q stays) [ inl same ↦ λ p pieces is d. ap table same ∙ known p pieces is d | inr at ↦ here at ]
+    | inr at ↦ here at
+  ]
+    where
+      here : (q ≡ place) × (wanted ≡ true) → Tells new q
+      here at =
           let put = puts.put at.1 in
-          subst (IsListAt source out new) (sym at.0) (list_here new put.0 put.1 put.2)
-    ]
+          subst (Tells new) (sym at.0) (λ p pieces is d. ap table put.1 ∙ made put.0 put.2 p pieces is d)
 
-    digest_here : (new : List (List ℕ)) (digest : List ℕ) → slice_get new place ≡ Some digest → digest ≡ tree_digest out.constants (whole as_tree built)
-        → IsDigestAt source out new place
-    digest_here new digest at_place is r pieces there d =
-        ap (λ o. unwrap_or o zero_word) at_place
-        ∙ (is ∙ ap (tree_digest out.constants) (ap (whole as_tree) (built-is r pieces there d) ∙ sym (seen-block as_tree (with_locals r.locals pieces))))
+-- the same where the list of the step's procedure is put there, or the digest of its tree
+module _ (source : Source) (out : Outside) (place : ℕ) (built : List (Piece trees.Tree))
+    (is_built : (p : Procedure) (pieces : List (Piece Block)) → slice_get source.procs place ≡ Some p → IsList source out p.locals p.body pieces
+    → built ≡ seen_pieces (seen_as as_tree) (with_locals p.locals pieces)) where
+  pub list_step : {old new : List (Vec piece.Piece Global)} {wanted : Bool} {Stays : ℕ → Type 0}
+      → Puts wanted place (λ (list : Vec piece.Piece Global). pieces_of list.items ≡ built) Stays old new
+      → (q : ℕ) → Stays q → IsListAt source out old q ⊎ ((q ≡ place) × (wanted ≡ true)) → IsListAt source out new q
+  list_step puts =
+      table_step source out place (λ o. unwrap_or (option_map (λ (v : Vec piece.Piece Global). pieces_of v.items) o) [])
+      (seen_pieces (seen_as as_tree)) puts (λ list is p pieces there d. is ∙ is_built p pieces there d)
 
-    pub digest_step : (new : List (List ℕ)) (wanted : Bool) (Stays : ℕ → Type 0)
-        → Puts wanted place (λ digest. digest ≡ tree_digest out.constants (whole as_tree built)) Stays digests new
-        → (q : ℕ) → Stays q → IsDigestAt source out digests q ⊎ ((q ≡ place) × (wanted ≡ true)) → IsDigestAt source out new q
-    digest_step new wanted Stays puts q stays (inr at) =
-        let put = puts.put at.1 in
-        subst (IsDigestAt source out new) (sym at.0) (digest_here new put.0 put.1 put.2)
-    digest_step new wanted Stays puts q stays (inl known) = elim (put_cases wanted place _ Stays digests new puts q stays) [
-      | inl same ↦ λ r pieces there d. ap (λ o. unwrap_or o zero_word) same ∙ known r pieces there d
-      | inr at ↦
-          let put = puts.put at.1 in
-          subst (IsDigestAt source out new) (sym at.0) (digest_here new put.0 put.1 put.2)
-    ]
+  pub digest_step : {old new : List (List ℕ)} {wanted : Bool} {Stays : ℕ → Type 0}
+      → Puts wanted place (λ digest. digest ≡ tree_digest out.constants (whole as_tree built)) Stays old new
+      → (q : ℕ) → Stays q → IsDigestAt source out old q ⊎ ((q ≡ place) × (wanted ≡ true)) → IsDigestAt source out new q
+  digest_step puts =
+      table_step source out place (λ o. unwrap_or o zero_word) (λ ys. block_digest out.constants (block_of ys)) puts
+      (λ digest is p pieces there d. is ∙ ap (tree_digest out.constants) (ap (whole as_tree) (is_built p pieces there d)
+      ∙ sym (seen-block as_tree (with_locals p.locals pieces))))

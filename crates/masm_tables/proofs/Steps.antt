@@ -3,7 +3,7 @@ use Rattle.masm_tables.proofs.Words.{◌≡◌, ℕ, ◌+◌, ◌<◌, ◌≤◌
 use Rattle.masm_tables.proofs.Words.{reverse, take_more, take_all, reverse-append, Source, Outside, IsListAt, IsDigestAt}
 use Rattle.masm_uses.specs.declared.planning.Step.{Step}
 use Rattle.masm_uses.specs.Plans.{HeldBehind, Builds, IsPlan, IsWanted, IsReferred, ListNeeds, NeedsIn, keeps_list, ended_lists, makes_digest, no_ends}
-use Rattle.masm_uses.proofs.PlanLemmas.{builds-more}
+use Rattle.masm_uses.proofs.PlanLemmas.{more_built}
 use Rattle.masm_flat.specs.declared.piece.Piece as piece
 
 -- the places of steps, which are those of procedures
@@ -34,7 +34,7 @@ module _ (makes : Step → Bool) (ends : Step → List ℕ) (Needs : ℕ → ℕ
   pub holds-all : (Held : ℕ → Type 0) (n : ℕ) → length steps ≤ n → Builds makes ends Needs count Wanted (λ q. ⊥) (reverse steps) → Holds Held n
   holds-all Held n all plan =
       subst (λ xs. Builds makes ends Needs count Wanted Held (reverse xs)) (sym (take_all n steps all))
-      (builds-more makes ends Needs Needs count count Wanted Wanted (λ q. ⊥) Held (reverse steps) refl (λ i j h. h) (λ q h. h) (λ q h. absurd h) plan)
+      (more_built makes ends (reverse steps) refl (λ i j h. h) (λ q h. h) (λ q h. absurd h) plan)
 
   module _ (k n : ℕ) (step : Step) (below : k < length steps) (is : step ≡ get_or steps k step) (next : n ≡ k + 1) where
     longer : reverse (take n steps) ≡ step ∷ reverse (take k steps)
@@ -43,13 +43,9 @@ module _ (makes : Step → Bool) (ends : Step → List ℕ) (Needs : ℕ → ℕ
     pub holds-needs : (Held : ℕ → Type 0) → Holds Held n → (q : ℕ) → Needs step.place q → Held q
     holds-needs Held builds = (subst (Builds makes ends Needs count Wanted Held) longer builds).1
 
-    pub holds-place : (Held : ℕ → Type 0) → Holds Held n → step.place < count
-    holds-place Held builds = (subst (Builds makes ends Needs count Wanted Held) longer builds).0
-
     pub holds-next : (Held Held' : ℕ → Type 0) → Holds Held n → ((q : ℕ) → HeldBehind makes ends Held step q → Held' q) → Holds Held' k
     holds-next Held Held' builds held =
-        builds-more makes ends Needs Needs count count Wanted Wanted (HeldBehind makes ends Held step) Held' (reverse (take k steps)) refl
-        (λ i j h. h) (λ q h. h) held (subst (Builds makes ends Needs count Wanted Held) longer builds).2
+        more_built makes ends (reverse (take k steps)) refl (λ i j h. h) (λ q h. h) held (subst (Builds makes ends Needs count Wanted Held) longer builds).2
 
   pub holds-end : (Held : ℕ → Type 0) (n : ℕ) → n ≡ 0 → Holds Held n → (q : ℕ) → Wanted q → Held q
   holds-end Held n none builds = subst (λ m. Builds makes ends Needs count Wanted Held (reverse (take m steps))) none builds
@@ -57,5 +53,10 @@ module _ (makes : Step → Bool) (ends : Step → List ℕ) (Needs : ℕ → ℕ
 -- the places of a plan
 pub plan-places : (source : Source) (steps : List Step) → IsPlan source steps → ArePlaces (length source.procs) (reverse steps)
 plan-places source steps plan =
-    builds-more keeps_list ended_lists (ListNeeds source) (λ i j. ⊥) (length source.procs) (length source.procs) (IsWanted source)
-    (λ q. ⊥) (λ q. ⊥) (λ q. Unit {0}) (reverse steps) refl (λ i j h. absurd h) (λ q h. absurd h) (λ q h. absurd h) plan.lists
+    more_built keeps_list ended_lists (reverse steps) refl (λ i j h. absurd h) (λ q h. absurd h) (λ q h. absurd h) plan.lists
+
+-- the next step's place is one of them
+pub place_low : (count : ℕ) (steps : List Step) (k n : ℕ) {step : Step} → k < length steps → step ≡ get_or steps k step → n ≡ k + 1
+    → ArePlaces count (reverse (take n steps)) → step.place < count
+place_low count steps k n {step} below is next places =
+    (subst (ArePlaces count) (ap (λ m. reverse (take m steps)) next ∙ steps_more steps k step below is) places).0

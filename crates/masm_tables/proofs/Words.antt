@@ -45,5 +45,5 @@ pub use Rattle.masm_tree.specs.Trees.{Body, Procedure, Source, position_of}
 pub use Rattle.masm_tree.specs.Views.{body_of, procedure_of, source_of}
 pub use Rattle.masm_tree.specs.declared.tree.Position.{Position}
 pub use Rattle.masm_tree.specs.declared.tree.Proc.{Proc}
-pub use Rattle.masm_uses.proofs.UsedLemmas.{all_in, in_all, mapped, place_within}
+pub use Rattle.masm_uses.proofs.UsedLemmas.{all_in, in_all, mapped}
 pub use Rattle.masm_uses.specs.UseOrders.{IsUseOrder}

@@ -36,11 +36,6 @@ abbrev pub IsAtIf : Position → Result Terminal Cause → Type 0
 IsAtIf at (Ok terminal) = IsAt at terminal
 IsAtIf at (Err cause) = Unit {0}
 
--- a terminal that is no constant, with its place
-stands : (at : Position) (terminal : Terminal) → const_positions (constants (terminal ∷ [])) ≡ []
-    → terminal_positions terminal ≡ at ∷ [] → IsAt at terminal
-stands at terminal c p = record { consts = inl c; procs = inr p }
-
 at-if : (at : Position) (b : Bool) (x y : Result Terminal Cause) → IsAtIf at x → IsAtIf at y → IsAtIf at (cond b x y)
 at-if at true x y h k = h
 at-if at false x y h k = k

@@ -8,7 +8,7 @@ use Rattle.masm_uses.proofs.Words.{main_links_in, own_places, places_referred, D
 use Rattle.masm_names.specs.declared.refusal.LinkCause.TheVariants as causes
 use Rattle.graphs.proofs.Filters.{once_has, once_from}
 use Rattle.masm_uses.proofs.TargetLemmas.{target_among, among_target, referred_within}
-use Rattle.masm_uses.proofs.UsedLemmas.{at_contains, contains_at, mapped, unmapped}
+use Rattle.masm_uses.proofs.UsedLemmas.{contains_at, mapped_in, unmapped_in}
 use Rattle.masm_uses.proofs.UseOrderLemmas.{leads_reaches}
 
 -- where marks tell the procedures that are reached
@@ -60,20 +60,15 @@ module _ (own kernel : List ℕ → Option ℕ) (procs : List Proc) (places : (n
       → Contains (dynexecs_of p.body) at → has_one (main_dynexecs_in last) ≡ true
   main_has None p at here among = absurd (omega (arith, here.1))
   main_has (Some last) p at here among =
-      let same : procedure_of last ≡ p = one_is (procedure_of last) p here in
-      some_one (dynexecs_in last) at (subst (λ q. Contains (dynexecs_of q.body) at) (sym same) among)
-    where
-      one_is : (a b : Procedure) → Contains (a ∷ []) b → a ≡ b
-      one_is a b h = contains_one a b h
+      some_one (dynexecs_in last) at (subst (λ q. Contains (dynexecs_of q.body) at) (sym (contains_one (procedure_of last) p here)) among)
 
   dynamic_has : IsDynamic the_source → has_dynexec procs main ≡ true
   dynamic_has is =
       elim (Contains-append_cases (map procedure_of procs) (option_to_list (option_map procedure_of main)) is.procedure is.here) [
         | inl in_procs ↦
-            let k = at_contains (map procedure_of procs) is.procedure in_procs in
-            let p = unmapped procedure_of procs k.0 is.procedure k.1 in
+            let p = unmapped_in procedure_of procs is.procedure in_procs in
             let among = subst (λ q. Contains (dynexecs_of q.body) is.at) p.2 is.among in
-            let row = contains_at (map dynexecs_in procs) k.0 (dynexecs_in p.0) (mapped dynexecs_in procs k.0 p.0 p.1) in
+            let row = mapped_in dynexecs_in procs p.0 p.1 in
             first_true (list_any has_one (map dynexecs_in procs)) (has_one (main_dynexecs_in main))
             (list_any-from_Any has_one (map dynexecs_in procs) (row.0, dynexecs_in p.0, row.1, row.2, some_one (dynexecs_in p.0) is.at among))
         | inr in_main ↦

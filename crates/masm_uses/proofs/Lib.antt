@@ -1,6 +1,7 @@
 pub mod DanglingAnswers
 pub mod DanglingLemmas
 pub mod DispatchLemmas
+pub mod Lent
 pub mod PlanLemmas
 pub mod PlanSources
 pub mod TargetLemmas

@@ -3,19 +3,11 @@ use Rattle.masm_uses.proofs.Words.{◌≡◌, ℕ, ◌+◌, ◌<◌, ◌≤◌, 
 use Rattle.masm_uses.proofs.Words.{subst, ◌∙◌, arith, reverse, filter, false≢true, cases_lt, cases_Bool, eqb_tells, Contains-push_cases, filter_passes}
 use Rattle.masm_uses.proofs.Words.{Contains, Edge, IsOrder, Builds, IsHeldFor, MarksRow, StepsTo, passed, built, IsNoneOrAll, EndsInGraph, Step}
 use Rattle.masm_uses.proofs.Words.{contains_none}
-use Rattle.std.proofs.lemmas.List.{take_more, take_all, get_or-set_same, get_or-set_other, get_or_past, length-set, reverse-append}
 use Rattle.masm_uses.specs.Plans.{HeldBehind}
+use Rattle.std.proofs.lemmas.List.{take_more, take_all, get_or-set_same, get_or-set_other, get_or_past, length-set, reverse-append}
 use Rattle.masm_names.proofs.TimesAmong.{times_kept, times_dropped}
 
 -- rows
-
-pub row_none : (marks : List Bool) → MarksRow marks [] marks []
-row_none marks = record {
-  marked = λ q h. absurd (contains_none q h);
-  keeps = λ q h. h;
-  fresh_were = λ q h. absurd (contains_none q h);
-  count = refl;
-}
 
 module _ (old mid : List Bool) (row : List ℕ) (i place : ℕ) (below : i < length row) (is : place ≡ get_or row i 0)
     (before : MarksRow old (take i row) mid []) where
@@ -91,6 +83,12 @@ module _ (makes : Step → Bool) (ends : Step → List ℕ) where
         (λ q h. (elim h.0 [ inl held ↦ inl (more q held) | inr here ↦ inr here ], h.1)) b.2,
   )
 
+  pub more_built : {Needs Needs' : ℕ → ℕ → Type 0} {count count' : ℕ} {Wanted Wanted' Held Held' : ℕ → Type 0} (steps : List Step) → count ≡ count'
+      → ((i j : ℕ) → Needs' i j → Needs i j) → ((q : ℕ) → Wanted' q → Wanted q) → ((q : ℕ) → Held q → Held' q)
+      → Builds makes ends Needs count Wanted Held steps → Builds makes ends Needs' count' Wanted' Held' steps
+  more_built {Needs} {Needs'} {count} {count'} {Wanted} {Wanted'} {Held} {Held'} steps same fewer less more b =
+      builds-more Needs Needs' count count' Wanted Wanted' Held Held' steps same fewer less more b
+
 -- The places that have a mark and stand among the first of an order.
 abbrev pub Seen : List Bool → List ℕ → ℕ → ℕ → Type 0
 Seen marks order k place = (get_or marks place false ≡ true) × Contains (take k order) place
@@ -113,23 +111,30 @@ module _ (makes : Step → Bool) (ends : Step → List ℕ) (graph : List (List 
   Served marks k steps =
       Builds makes ends (IsHeldFor graph needed order) (length graph) (λ q. get_or needed q false ≡ true) (Seen marks order k) (reverse steps)
 
-  served-more : (Held Held' : ℕ → Type 0) (steps : List Step) → ((q : ℕ) → Held q → Held' q)
+  -- the same steps, where more is held
+  served-more : {Held Held' : ℕ → Type 0} (steps : List Step) → ((q : ℕ) → Held q → Held' q)
       → Builds makes ends (IsHeldFor graph needed order) (length graph) (λ q. get_or needed q false ≡ true) Held steps
       → Builds makes ends (IsHeldFor graph needed order) (length graph) (λ q. get_or needed q false ≡ true) Held' steps
-  served-more Held Held' steps more b =
-      builds-more makes ends (IsHeldFor graph needed order) (IsHeldFor graph needed order) (length graph) (length graph)
-      (λ q. get_or needed q false ≡ true) (λ q. get_or needed q false ≡ true) Held Held' steps refl (λ i j h. h) (λ q h. h) more b
+  served-more steps more b = more_built makes ends steps refl (λ i j h. h) (λ q h. h) more b
+
+  -- what stands among the first of the order, or next
+  next_or : (k place q : ℕ) → k < length order → place ≡ get_or order k 0 → Contains (take (k + 1) order) q → Contains (take k order) q ⊎ (place ≡ q)
+  next_or k place q below here h =
+      elim (Contains-push_cases (take k order) (get_or order k 0) q (subst (λ xs. Contains xs q) (take_more order k 0 below) h)) [
+        | inl early ↦ inl early
+        | inr at ↦ inr (here ∙ at)
+      ]
 
   pub served-step : (k place : ℕ) (row : List ℕ) (marks new : List Bool) (steps more : List Step) → k < length order → place ≡ get_or order k 0
       → row ≡ get_or graph place [] → ((q : ℕ) → get_or needed q false ≡ true → get_or marks q false ≡ true)
       → Served marks (k + 1) steps → StepsTo makes ends place row marks steps new more → Served new k more
   served-step k place row marks new steps more below here row_is kept before (passed unmarked) =
-      served-more (Seen marks order (k + 1)) (Seen marks order k) (reverse steps)
+      served-more (reverse steps)
       (λ q h. (
         h.0,
-        elim (Contains-push_cases (take k order) (get_or order k 0) q (subst (λ xs. Contains xs q) (take_more order k 0 below) h.1)) [
+        elim (next_or k place q below here h.1) [
           | inl early ↦ early
-          | inr at ↦ absurd (false≢true (sym unmarked ∙ (ap (λ p. get_or marks p false) (here ∙ at) ∙ h.0)))
+          | inr at ↦ absurd (false≢true (sym unmarked ∙ (ap (λ p. get_or marks p false) at ∙ h.0)))
         ],
       ))
       before
@@ -138,8 +143,7 @@ module _ (makes : Step → Bool) (ends : Step → List ℕ) (graph : List (List 
       (sym (reverse-append steps (step ∷ []))) (
         subst (λ p. p < length graph) (sym (at_place ∙ here)) (is.within k below),
         needs,
-        served-more (Seen marks order (k + 1)) (HeldBehind makes ends (Seen after order k) step) (reverse steps)
-            (λ q h. (held q h, λ fresh. false≢true (sym (rows.fresh_were q fresh) ∙ h.0))) before,
+        served-more (reverse steps) (λ q h. (held q h, λ fresh. false≢true (sym (rows.fresh_were q fresh) ∙ h.0))) before,
       )
     where
       needs : (q : ℕ) → IsHeldFor graph needed order step.place q → Seen after order k q
@@ -149,9 +153,9 @@ module _ (makes : Step → Bool) (ends : Step → List ℕ) (graph : List (List 
       needs q (inr further) = (rows.keeps q (kept q further.0), further.1 k below (sym (at_place ∙ here)))
 
       held : (q : ℕ) → Seen marks order (k + 1) q → Seen after order k q ⊎ ((q ≡ step.place) × (makes step ≡ true))
-      held q h = elim (Contains-push_cases (take k order) (get_or order k 0) q (subst (λ xs. Contains xs q) (take_more order k 0 below) h.1)) [
+      held q h = elim (next_or k place q below here h.1) [
         | inl early ↦ inl (rows.keeps q h.0, early)
-        | inr at ↦ inr (sym (at_place ∙ (here ∙ at)), is_made ∙ (ap (λ p. get_or marks p false) (here ∙ at) ∙ h.0))
+        | inr at ↦ inr (sym (at_place ∙ at), is_made ∙ (ap (λ p. get_or marks p false) at ∙ h.0))
       ]
 
   pub served-none : (n : ℕ) → length needed ≡ length graph → length order ≤ n → Served needed n []
@@ -161,5 +165,4 @@ module _ (makes : Step → Bool) (ends : Step → List ℕ) (graph : List (List 
   pub served-all : (marks : List Bool) (k : ℕ) (steps : List Step) → k ≡ 0 → Served marks k steps
       → Builds makes ends (IsHeldFor graph needed order) (length graph) (λ q. get_or needed q false ≡ true) (λ q. ⊥) (reverse steps)
   served-all marks k steps none served =
-      served-more (Seen marks order k) (λ q. ⊥) (reverse steps)
-      (λ q h. contains_none q (subst (λ n. Contains (take n order) q) none h.1)) served
+      served-more (reverse steps) (λ q h. contains_none q (subst (λ n. Contains (take n order) q) none h.1)) served

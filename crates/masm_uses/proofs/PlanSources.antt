@@ -1,18 +1,18 @@
 -- A plan of a graph of uses is one of the source.
-use Rattle.masm_uses.proofs.Words.{◌≡◌, ℕ, ◌<◌, Bool, true, false, List, [], ◌∷◌, map, length, get_or, slice_get, Option, Some, None, ◌⊎◌, inl, inr, refl}
+use Rattle.masm_uses.proofs.Words.{◌≡◌, ℕ, ◌<◌, Bool, true, false, List, [], ◌∷◌, map, length, get_or, Option, Some, None, ◌⊎◌, inl, inr, refl}
 use Rattle.masm_uses.proofs.Words.{sym, ap, ap₂, subst, ◌∙◌, arith, reverse, length-map, Contains-get_or, All, Contains, cons_option, option_map, Const, Proc}
 use Rattle.masm_uses.proofs.Words.{Procedure, Source, procedure_of, body_of, Step, Edge, IsGraph, IsOrder, link_of, links_in, main_links_in, own_place}
 use Rattle.masm_uses.proofs.Words.{own_places, place_if, places_with, own_target, kernel_target, target_of, Builds, StandsBefore, keeps_list, ended_lists}
 use Rattle.masm_uses.proofs.Words.{makes_digest, no_ends, IsNoneOrAll, EndsInGraph, IsUseOrder, Use, Owner, Own, Kernel, uses_of, first_place, IsTarget}
 use Rattle.masm_uses.proofs.Words.{HasDynexec, IsDynamic, contains_none}
-use Rattle.std.proofs.lemmas.Option.{get_or_from_slice_get, slice_get-get_or}
+use Rattle.std.proofs.lemmas.Option.{get_or_from_slice_get, same_Some}
 use Rattle.masm_uses.specs.Plans.{IsWanted, exported, of_main, of_dynexec, IsReferred, by_main, NeedsIn, ListNeeds, used, targeted, EndsInFull, main_uses}
 use Rattle.masm_names.specs.UsedPlaces.{place_used, places_used}
 use Rattle.masm_uses.proofs.DispatchLemmas.{dynamic_by}
-use Rattle.masm_uses.proofs.PlanLemmas.{builds-more}
-use Rattle.masm_uses.proofs.UsedLemmas.{contains_at, at_contains, mapped, unmapped, place_within, leads_by, leads_own, link_used}
+use Rattle.masm_uses.proofs.PlanLemmas.{more_built}
+use Rattle.masm_uses.proofs.UsedLemmas.{mapped, unmapped, mapped_in, unmapped_in, procedure_within, leads_by, leads_own, link_used}
 use Rattle.masm_uses.proofs.UseOrderLemmas.{counts, is-graph}
-use Rattle.masm_graph.proofs.OwnLemmas.{places_own, with_in_own, own_in_with, edge_with, goes_with}
+use Rattle.masm_graph.proofs.OwnLemmas.{with_link, own_in_with, edge_with, goes_with}
 
 module _ (own kernel : List ℕ → Option ℕ) (procs : List Proc) (places : (name : List ℕ) → own name ≡ first_place (map procedure_of procs) name) where
   abbrev graph : Bool → List (List ℕ)
@@ -22,15 +22,11 @@ module _ (own kernel : List ℕ → Option ℕ) (procs : List Proc) (places : (n
   main_within : (refers : Bool) (main : Option Proc) (q : ℕ) → Contains (places_with refers (main_links_in own kernel main)) q → q < length procs
   main_within refers None q h = absurd (contains_none q h)
   main_within refers (Some p) q h =
-      let has = places_own (links_in own kernel p) q (with_in_own refers (links_in own kernel p) q h) in
-      let link = has.1 in
-      let at_k : slice_get (links_in own kernel p) has.0 ≡ Some link = slice_get-get_or _ has.0 link has.2 ∙ ap Some has.3 in
-      let found = unmapped (link_of own kernel) (uses_of (body_of p.body.items)) has.0 link at_k in
-      let by = leads_by own kernel found.0.kind found.0.name q (sym (ap (λ l. l.target) found.2) ∙ has.4) in
-      let below = place_within (map (λ (r : Procedure). r.name) (map procedure_of procs)) found.0.name q (sym (places found.0.name) ∙ by.1) in
-      let names = length-map (map procedure_of procs) (λ (r : Procedure). r.name) in
-      let count = length-map procs procedure_of in
-      omega arith
+      let found = with_link refers (links_in own kernel p) q h in
+      let u = unmapped_in (link_of own kernel) (uses_of (body_of p.body.items)) found.0 found.1 in
+      let by = leads_by own kernel u.0.kind u.0.name q (sym (ap (λ l. l.target) u.2) ∙ found.3) in
+      subst (λ n. q < n) (length-map procs procedure_of)
+      (procedure_within (map procedure_of procs) u.0.name q (sym (places u.0.name) ∙ by.1))
 
   pub row_within : (refers : Bool) (main : Option Proc) → All (λ q. q < length procs) (places_with refers (main_links_in own kernel main))
   row_within refers main k d below =
@@ -42,14 +38,9 @@ module _ (own kernel : List ℕ → Option ℕ) (procs : List Proc) (places : (n
       → first_place (map procedure_of procs) u.name ≡ Some q → Contains (places_with refers (main_links_in own kernel main)) q
   used_in_main refers None p u q is has own_use same leads = cc
   used_in_main refers (Some x) p u q is has own_use same leads =
-      let same_main : procedure_of x ≡ p = some_same (procedure_of x) p is in
-      let at_k = at_contains (uses_of (body_of x.body.items)) u (subst (λ r. Contains (uses_of r.body) u) (sym same_main) has) in
-      let there = contains_at (links_in own kernel x) at_k.0 (link_of own kernel u) (mapped (link_of own kernel) _ at_k.0 u at_k.1) in
-      own_in_with refers (links_in own kernel x) (link_of own kernel u) q there same
+      let there = subst (λ r. Contains (uses_of r.body) u) (sym (same_Some (procedure_of x) p is)) has in
+      own_in_with refers (links_in own kernel x) (link_of own kernel u) q (mapped_in (link_of own kernel) _ u there) same
       (leads_own own kernel u.kind u.name q own_use (places u.name ∙ leads))
-    where
-      some_same : (a b : Procedure) → Some a ≡ Some b → a ≡ b
-      some_same a b e = cc
 
   -- what a procedure needs is told by its row
   needs_edge : (refers : Bool) (i j : ℕ) → NeedsIn (map procedure_of procs) refers i j → Edge (graph refers) i j
@@ -114,20 +105,15 @@ module _ (own kernel : List ℕ → Option ℕ) (procs : List Proc) (places : (n
         (IsWantedIn held) (λ q. ⊥) (reverse steps)
         → Builds keeps_list ended_lists (ListNeeds the_source) (length the_source.procs) (IsWanted the_source) (λ q. ⊥) (reverse steps)
     plan-lists held order steps holds is b =
-        builds-more keeps_list ended_lists (λ i j. Edge (graph false) i j ⊎ (Contains held j × StandsBefore order j i)) (ListNeeds the_source)
-        (length (graph false)) (length (map procedure_of procs)) (IsWantedIn held)
-        (IsWanted the_source) (λ q. ⊥) (λ q. ⊥) (reverse steps)
-        (counts_with false ∙ sym (length-map procs procedure_of)) (needs held order holds is) (wanted held holds) (λ q h. h) b
+        more_built keeps_list ended_lists (reverse steps) (counts_with false ∙ sym (length-map procs procedure_of)) (needs held order holds is)
+        (wanted held holds) (λ q h. h) b
 
     pub plan-digests : (steps : List Step)
         → Builds makes_digest no_ends (Edge (graph true)) (length (graph true))
         (λ q. Contains (places_with true (main_links_in own kernel main)) q) (λ q. ⊥) (reverse steps)
         → Builds makes_digest no_ends (NeedsIn the_source.procs true) (length the_source.procs) (IsReferred the_source) (λ q. ⊥) (reverse steps)
     plan-digests steps b =
-        builds-more makes_digest no_ends (Edge (graph true)) (NeedsIn (map procedure_of procs) true) (length (graph true))
-        (length (map procedure_of procs)) (λ q. Contains (places_with true (main_links_in own kernel main)) q)
-        (IsReferred the_source) (λ q. ⊥) (λ q. ⊥) (reverse steps)
-        (counts_with true ∙ sym (length-map procs procedure_of)) (needs_edge true) referred (λ q h. h) b
+        more_built makes_digest no_ends (reverse steps) (counts_with true ∙ sym (length-map procs procedure_of)) (needs_edge true) referred (λ q h. h) b
 
 -- rows of uses by the places to which they lead
 module _ (own kernel : List ℕ → Option ℕ) where

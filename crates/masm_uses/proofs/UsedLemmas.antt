@@ -1,11 +1,11 @@
 -- The rows of uses against the uses of a source.
-use Rattle.masm_uses.proofs.Words.{◌≡◌, ℕ, suc, zero, ◌+◌, ◌<◌, Bool, true, false, cond, List, [], ◌∷◌, map, length, get_or, slice_get, Option, Some, None}
+use Rattle.masm_uses.proofs.Words.{◌≡◌, ℕ, suc, zero, ◌+◌, ◌<◌, List, [], ◌∷◌, map, length, get_or, slice_get, Option, Some, None}
 use Rattle.masm_uses.proofs.Words.{◌⊎◌, inl, inr, refl, sym, ap, subst, ◌∙◌, bytes_eq, unwrap_or, arith, cases_Bool, length-map, Contains-append_left}
-use Rattle.masm_uses.proofs.Words.{Contains-append_right, Contains-append_cases, Contains-push, bytes_eq-Decides, flat_map, Contains, option_map, Proc}
+use Rattle.masm_uses.proofs.Words.{Contains-append_right, Contains-append_cases, bytes_eq-Decides, flat_map, Contains, option_map, Proc}
 use Rattle.masm_uses.proofs.Words.{Procedure, procedure_of, body_of, LinkCause, missing_cause, Leads, itself, through, own_target, kernel_target, target_of}
 use Rattle.masm_uses.proofs.Words.{link_of, links_in, UsesProcedure, AreUsers, Owner, Own, Kernel, Use, uses_of, place_in, first_place, UsedIn, Reaches}
-use Rattle.masm_uses.proofs.Words.{cons_cases, user_within, Leads-push}
-use Rattle.std.proofs.lemmas.Option.{slice_get-map, slice_get-get_or, slice_get_within, get_or_from_slice_get, slice_get_cases}
+use Rattle.masm_uses.proofs.Words.{cons_cases, cons_here, user_within, Leads-push}
+use Rattle.std.proofs.lemmas.Option.{slice_get-map, slice_get-get_or, slice_get_within, get_or_from_slice_get, slice_get_cases, same_Some}
 use Rattle.masm_graph.specs.declared.links.Target.TheVariants as targets
 use Rattle.masm_names.specs.declared.refusal.LinkCause.TheVariants as causes
 use Rattle.masm_names.specs.Uses as uses
@@ -35,60 +35,80 @@ all_in f (z ∷ xs) y h = elim (Contains-append_cases (f z) (flat_map f xs) y h)
 -- what a mapped list has at a place
 pub unmapped : {X Y : Type 0} (f : X → Y) (xs : List X) (k : ℕ) (y : Y) → slice_get (map f xs) k ≡ Some y
     → (x : X) × (slice_get xs k ≡ Some x) × (y ≡ f x)
-unmapped {X} f xs k y e = by (slice_get xs k) refl
+unmapped {X} f xs k y e = by (slice_get xs k) refl (sym (slice_get-map f xs k) ∙ e)
   where
-    by : (o : Option X) → slice_get xs k ≡ o → (x : X) × (slice_get xs k ≡ Some x) × (y ≡ f x)
-    by None none = absurd (let other : slice_get (map f xs) k ≡ None = slice_get-map f xs k ∙ ap (option_map f) none in cc)
-    by (Some x) there = (x, there, ap (λ o. unwrap_or o y) (sym e ∙ (slice_get-map f xs k ∙ ap (option_map f) there)))
+    by : (o : Option X) → slice_get xs k ≡ o → option_map f o ≡ Some y → (x : X) × (slice_get xs k ≡ Some x) × (y ≡ f x)
+    by None none is = cc
+    by (Some x) there is = (x, there, sym (same_Some (f x) y is))
 
 pub mapped : {X Y : Type 0} (f : X → Y) (xs : List X) (k : ℕ) (x : X) → slice_get xs k ≡ Some x → slice_get (map f xs) k ≡ Some (f x)
 mapped f xs k x e = slice_get-map f xs k ∙ ap (option_map f) e
 
+-- and what stands in it anywhere
+pub unmapped_in : {X Y : Type 0} (f : X → Y) (xs : List X) (y : Y) → Contains (map f xs) y → (x : X) × Contains xs x × (y ≡ f x)
+unmapped_in f xs y has =
+    let k = at_contains (map f xs) y has in
+    let found = unmapped f xs k.0 y k.1 in
+    (found.0, contains_at xs k.0 found.0 found.1, found.2)
+
+pub mapped_in : {X Y : Type 0} (f : X → Y) (xs : List X) (x : X) → Contains xs x → Contains (map f xs) (f x)
+mapped_in f xs x has = let k = at_contains xs x has in contains_at (map f xs) k.0 (f x) (mapped f xs k.0 x k.1)
+
 -- names that stand nowhere
+
+pub none_less : (o : Option ℕ) → option_map (λ i. i + 1) o ≡ None → o ≡ None
+none_less None e = refl
+none_less (Some k) e = cc
+
 pub place_none : (names : List (List ℕ)) (name : List ℕ) → place_in names name ≡ None → ¬ (Contains names name)
 place_none [] name e h = omega (arith, h.1)
 place_none (n ∷ names) name e h = elim (cases_Bool (bytes_eq n name)) [
-  | inl same ↦ let some = ap (λ b. cond b (Some 0) (option_map (λ i. i + 1) (place_in names name))) same in cc
+  | inl same ↦ let some : Some 0 ≡ None = rw same at e in cc
   | inr other ↦ elim (cons_cases n names name h) [
     | inl is ↦ let same = (bytes_eq-Decides n name).1 is in cc
-    | inr later ↦
-        place_none names name (none_less (place_in names name)
-        (sym (ap (λ b. cond b (Some 0) (option_map (λ i. i + 1) (place_in names name))) other) ∙ e)) later
+    | inr later ↦ place_none names name (none_less (place_in names name) (rw other at e)) later
   ]
 ]
-  where
-    none_less : (o : Option ℕ) → option_map (λ i. i + 1) o ≡ None → o ≡ None
-    none_less None e = refl
-    none_less (Some k) e = cc
 
 pub none_place : (names : List (List ℕ)) (name : List ℕ) → ¬ (Contains names name) → place_in names name ≡ None
 none_place [] name h = refl
 none_place (n ∷ names) name h = elim (cases_Bool (bytes_eq n name)) [
-  | inl same ↦
-      absurd (h (subst (Contains (n ∷ names)) ((bytes_eq-Decides n name).0 same)
-      (Contains-append_left (n ∷ []) names n (Contains-push [] n))))
-  | inr other ↦
-      ap (λ b. cond b (Some 0) (option_map (λ i. i + 1) (place_in names name))) other
-      ∙ ap (option_map (λ i. i + 1)) (none_place names name (λ later. h (Contains-append_right (n ∷ []) names name later)))
+  | inl same ↦ absurd (h (subst (Contains (n ∷ names)) ((bytes_eq-Decides n name).0 same) (cons_here n names)))
+  | inr other ↦ rw other (ap (option_map (λ i. i + 1)) (none_place names name (λ later. h (Contains-append_right (n ∷ []) names name later))))
 ]
 
-pub place_within : (names : List (List ℕ)) (name : List ℕ) (k : ℕ) → place_in names name ≡ Some k → k < length names
-place_within [] name k e = cc
-place_within (n ∷ names) name k e = by (bytes_eq n name) (place_in names name) (λ j. place_within names name j) e
+-- the name at a place
+pub named_at : (names : List (List ℕ)) (name : List ℕ) (k : ℕ) → place_in names name ≡ Some k → slice_get names k ≡ Some name
+named_at [] name k e = cc
+named_at (n ∷ names) name k e = elim (cases_Bool (bytes_eq n name)) [
+  | inl same ↦
+      let first : Some 0 ≡ Some k = rw same at e in
+      subst (λ m. slice_get (n ∷ names) m ≡ Some name) (same_Some 0 k first) (ap Some ((bytes_eq-Decides n name).0 same))
+  | inr other ↦ later (place_in names name) (λ j. named_at names name j) (rw other at e)
+]
   where
-    by : (b : Bool) (o : Option ℕ) → ((j : ℕ) → o ≡ Some j → j < length names)
-        → cond b (Some 0) (option_map (λ i. i + 1) o) ≡ Some k → k < suc (length names)
-    by true o within e = let is : 0 ≡ k = ap (λ o. unwrap_or o 0) e in omega arith
-    by false None within e = cc
-    by false (Some j) within e = let is : j + 1 ≡ k = ap (λ o. unwrap_or o 0) e in let below = within j refl in omega arith
+    later : (o : Option ℕ) → ((j : ℕ) → o ≡ Some j → slice_get names j ≡ Some name) → option_map (λ i. i + 1) o ≡ Some k
+        → slice_get (n ∷ names) k ≡ Some name
+    later None more e' = cc
+    later (Some j) more e' =
+        let next : suc j ≡ k = (let same = same_Some (j + 1) k e' in omega arith) in
+        subst (λ m. slice_get (n ∷ names) m ≡ Some name) next (more j refl)
+
+pub place_within : (names : List (List ℕ)) (name : List ℕ) (k : ℕ) → place_in names name ≡ Some k → k < length names
+place_within names name k e = slice_get_within names k name (named_at names name k e)
+
+-- the same for procedures
+pub procedure_within : (procs : List Procedure) (name : List ℕ) (k : ℕ) → first_place procs name ≡ Some k → k < length procs
+procedure_within procs name k e =
+    subst (λ n. k < n) (length-map procs (λ (p : Procedure). p.name)) (place_within (map (λ (p : Procedure). p.name) procs) name k e)
 
 -- What the target of a use says.
 own_missing : (o : Option ℕ) (cause : LinkCause) → missing_cause (own_target o) ≡ Some cause → (o ≡ None) × (cause ≡ causes.UnknownProcedure)
-own_missing None cause e = (refl, ap (λ c. unwrap_or c cause) (sym e))
+own_missing None cause e = (refl, cc)
 own_missing (Some j) cause e = cc
 
 kernel_missing : (o : Option ℕ) (cause : LinkCause) → missing_cause (kernel_target o) ≡ Some cause → (o ≡ None) × (cause ≡ causes.NotInKernel)
-kernel_missing None cause e = (refl, ap (λ c. unwrap_or c cause) (sym e))
+kernel_missing None cause e = (refl, cc)
 kernel_missing (Some j) cause e = cc
 
 own_leads : (o : Option ℕ) (j : ℕ) → own_target o ≡ targets.Own j → o ≡ Some j
@@ -144,37 +164,27 @@ module _ (own kernel : List ℕ → Option ℕ) (procs : List Proc) (places : (n
       elim (slice_get_cases (map (links_in own kernel) procs) i).1 [
         | inl row ↦
             let found = unmapped (links_in own kernel) procs i row.0 row.2 in
-            let p = found.0 in
-            let same = row.3 ∙ found.2 in
-            let has = subst (λ r. UsesProcedure r i j) refl goes in
-            let k = has.0 in
-            let link = has.1 in
-            let at_k : slice_get (get_or (map (links_in own kernel) procs) i []) k ≡ Some link = slice_get-get_or _ k link has.2 ∙ ap Some has.3 in
-            let row_is : get_or (map (links_in own kernel) procs) i [] ≡ links_in own kernel p = get_or_from_slice_get _ i row.0 [] row.2 ∙ found.2 in
-            let use_at_k = unmapped (link_of own kernel) (uses_of (body_of p.body.items)) k link (sym (ap (λ r. slice_get r k) row_is) ∙ at_k) in
-            (use_at_k.0, used i p use_at_k.0 j found.1 (contains_at _ k use_at_k.0 use_at_k.1) (sym (ap (λ l. l.target) use_at_k.2) ∙ has.4))
+            let row_is : get_or (map (links_in own kernel) procs) i [] ≡ links_in own kernel found.0 =
+            get_or_from_slice_get _ i row.0 [] row.2 ∙ found.2 in
+            let has = subst (λ r. Contains r goes.1) row_is (goes.0, goes.2, goes.3) in
+            let u = unmapped_in (link_of own kernel) (uses_of (body_of found.0.body.items)) goes.1 has in
+            (u.0, used i found.0 u.0 j found.1 u.1 (sym (ap (λ l. l.target) u.2) ∙ goes.4))
         | inr past ↦ absurd (let within = user_within _ i j goes in let l = past.0 in omega arith)
       ]
 
   pub goes_within : (i j : ℕ) → UsesProcedure (map (links_in own kernel) procs) i j → j < length procs
   goes_within i j goes =
       let found = goes_used i j goes in
-      let below = place_within (map (λ (q : Procedure). q.name) (map procedure_of procs)) found.0.name j found.1.target in
-      let counts = length-map (map procedure_of procs) (λ (q : Procedure). q.name) in
-      let count = length-map procs procedure_of in
-      omega arith
+      subst (λ n. j < n) (length-map procs procedure_of) (procedure_within (map procedure_of procs) found.0.name j found.1.target)
 
   -- the link of a use stands in the row of its procedure
   pub link_used : (i : ℕ) (u : Use) (j : ℕ) → UsedIn (map procedure_of procs) i u j
       → Contains (get_or (map (links_in own kernel) procs) i []) (link_of own kernel u) × (target_of own kernel u.kind u.name ≡ targets.Own j)
   link_used i u j is =
       let by = used_by i u j is in
-      let p = by.0 in
-      let row_is : get_or (map (links_in own kernel) procs) i [] ≡ links_in own kernel p =
-      get_or_from_slice_get _ i (links_in own kernel p) [] (mapped (links_in own kernel) procs i p by.1) in
-      let at_k = at_contains (uses_of (body_of p.body.items)) u by.2 in
-      let link_at = contains_at (links_in own kernel p) at_k.0 (link_of own kernel u) (mapped (link_of own kernel) _ at_k.0 u at_k.1) in
-      (subst (λ r. Contains r (link_of own kernel u)) (sym row_is) link_at, by.3)
+      let row_is : get_or (map (links_in own kernel) procs) i [] ≡ links_in own kernel by.0 =
+      get_or_from_slice_get _ i (links_in own kernel by.0) [] (mapped (links_in own kernel) procs i by.0 by.1) in
+      (subst (λ r. Contains r (link_of own kernel u)) (sym row_is) (mapped_in (link_of own kernel) _ u by.2), by.3)
 
   pub used_goes : (i : ℕ) (u : Use) (j : ℕ) → UsedIn (map procedure_of procs) i u j → UsesProcedure (map (links_in own kernel) procs) i j
   used_goes i u j is =

@@ -1,5 +1,5 @@
 -- The words that the proofs of this crate have in common.
-pub use Rattle.std.proofs.Common.{Bool, Global, List, None, Option, Some, Vec, [], ap, append-nil, ap₂, arith, bytes_eq, cond, false, get_or, inl, inr}
+pub use Rattle.std.proofs.Common.{Bool, Global, List, None, Option, Some, Vec, [], ap, append-nil, ap₂, arith, bytes_eq, false, get_or, inl, inr}
 pub use Rattle.std.proofs.Common.{length, map, not, refl, rules, set, slice_get, slice_index_or, subst, suc, sym, take, true, unwrap_or, zero, ℕ, ◌&&◌, ◌++◌}
 pub use Rattle.std.proofs.Common.{◌+◌, ◌-◌, ◌<◌, ◌||◌, ◌↔◌, ◌∙◌, ◌∷◌, ◌≡◌, ◌≤◌, ◌⊎◌}
 pub use Rattle.std.proofs.lemmas.Bool.{cases_Bool, cases_lt, false≢true}
@@ -7,7 +7,7 @@ pub use Rattle.std.proofs.lemmas.Bool.Decides.{eqb_tells}
 pub use Rattle.std.proofs.lemmas.Grind.{flat_map-append}
 pub use Rattle.std.proofs.lemmas.List.{get_or_default, length-map}
 pub use Rattle.std.proofs.lemmas.List.Elements.{All-contains, All-nil, All-push, Contains-append_cases, Contains-append_left, Contains-append_right}
-pub use Rattle.std.proofs.lemmas.List.Elements.{Contains-get_or, Contains-push, Contains-push_cases, filter_map-append, filter_passes}
+pub use Rattle.std.proofs.lemmas.List.Elements.{Contains-get_or, Contains-push_cases, filter_map-append, filter_passes}
 pub use Rattle.std.proofs.lemmas.List.Folds.{list_any-from_Any}
 pub use Rattle.std.proofs.lemmas.Slice.Eq.{bytes_eq-Decides}
 pub use Rattle.std.specs.List.{All, Contains, cons_option, flat_map, list_any}
@@ -17,7 +17,7 @@ pub use Rattle.graphs.proofs.SortLemmas.{contains_none}
 pub use Rattle.graphs.proofs.WalkLemmas.{Leads-push, contains_one, within_marks}
 pub use Rattle.graphs.specs.Graph.{Edge, IsGraph, Leads, LeadsFrom, itself, rows_of, through}
 pub use Rattle.graphs.specs.Orders.{IsAcyclic, IsOrder, each_once, marked_first}
-pub use Rattle.masm_graph.proofs.UserLemmas.{AreUsers-graph, no_link, row_itself, row_read, user_within}
+pub use Rattle.masm_graph.proofs.UserLemmas.{AreUsers-graph, no_link, row_itself, row_read, rows_ended, rows_within, user_within}
 pub use Rattle.masm_graph.specs.Dynexecs.{dynexecs_in, has_dynexec, has_one, main_dynexecs_in}
 pub use Rattle.masm_graph.specs.Links.{kernel_target, link_of, links_in, main_links_in, own_place, own_places, own_target, place_if, places_referred}
 pub use Rattle.masm_graph.specs.Links.{places_with, target_of}

@@ -5,6 +5,7 @@ use Rattle.vm_field.specs.Field.{felt_add, felt_mul, felt_sub}
 use Rattle.vm_ops.specs.Values.{bit_of, is_u32}
 use Rattle.masm_effects.specs.Effects.{difference}
 use Rattle.std_u64.specs.Outcomes.{number, wrapped_difference}
+use Rattle.masm_effects.proofs.Tests.{bit-product as and-bits}
 
 -- four limbs below 2^32, b's above a's
 pub record Limbs (b1 b0 a1 a0 : ℕ) : Type 0 where
@@ -94,10 +95,6 @@ low-is b1 b0 a1 a0 small =
     let h4 = small.low_a in
     omega arith
 
-or-true : (test : Bool) → (test || true) ≡ true
-or-true true = refl
-or-true false = refl
-
 -- with no borrow of the high limbs
 borrow-later : (b1 b0 a1 a0 : ℕ) → Limbs b1 b0 a1 a0 → b1 ≤ a1
     → last_borrow b1 b0 a1 a0 ≡ nat_lt (number a1 a0) (number b1 b0)
@@ -140,12 +137,6 @@ or-bits true true = refl
 or-bits true false = refl
 or-bits false true = refl
 or-bits false false = refl
-
-and-bits : (x y : Bool) → felt_mul (bit_of x) (bit_of y) ≡ bit_of (x && y)
-and-bits true true = refl
-and-bits true false = refl
-and-bits false true = refl
-and-bits false false = refl
 
 -- numbers are equal exactly where both limbs are
 same-limbs : (b1 b0 a1 a0 : ℕ) → Limbs b1 b0 a1 a0 → ((b0 == a0) && (a1 == b1)) ≡ (number a1 a0 == number b1 b0)

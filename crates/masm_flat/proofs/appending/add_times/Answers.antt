@@ -22,7 +22,7 @@ returns c =
     let list = pieces_of c.args.list.items in
     let n = c.args.count - 1 in
     let same : c.args.count ≡ n + 1 = omega arith in
-    on_ok c.add_moved.result _ _ (λ is.
+    on_ok c.add_moved.result (λ is.
     is ∙ (ap (λ xs. xs ++ list) (c.in_ok-add_turns.ensures ∙ ap (λ xs. out ++ times n (pieces_of xs)) c.deref.ensures.value)
     ∙ (append_assoc out (times n list) list ∙ ap (λ xs. out ++ xs) (sym (times_more n list) ∙ ap (λ k. times k list) (sym same)))))
     c.add_moved.ensures

@@ -5,10 +5,8 @@ use Rattle.masm_flat.proofs.flattening.called.Goals as goal
 
 pub returns : goal.returns
 returns c = λ at.
-    let name = c.args.name.now in
     let list = c.add_used.new.out.items in
     let built : Call (tree_of c.in_ok-new.field-0.value) ≡ Call (whole as_tree (pieces_of list)) =
     ap (λ t. Call (tree_of t)) c.in_ok-new.ensures.ok ∙ ap Call c.in_ok-tree_of_list.ensures in
-    comes_as c.args.scope.now _ _ _ (λ known. Call (whole as_tree (known.list name))) (λ pieces. Call (whole as_tree pieces)) c.args.table.now
-    c.add_used.new.table (pieces_of list) _ refl
-    (λ known. ap (λ xs. Call (whole as_tree (pieces_of xs ++ known.list name))) c.new-list.ensures.items) built (c.in_ok-add_used.ensures at)
+    comes_as (λ pieces. Call (whole as_tree pieces)) (c.in_ok-add_used.ensures at) refl
+    (λ known. ap (λ xs. Call (whole as_tree (pieces_of xs ++ known.list c.args.name.now))) c.new-list.ensures.items) built

@@ -1,5 +1,5 @@
 use Rattle.masm_flat.proofs.Words.{◌≡◌, ◌-◌, ◌<◌, [], ◌∷◌, ◌++◌, refl, sym, ap, ap₂, ◌∙◌, arith, prime, plain_item, FmpUpdate, lit, body_of, uses_of}
-use Rattle.masm_flat.proofs.Words.{Operation, as_tree, flat_with, with_locals, pieces_of}
+use Rattle.masm_flat.proofs.Words.{Operation, as_tree, flat_with, pieces_of}
 use Rattle.masm_flat.proofs.Frames.{with_none, with_some}
 use Rattle.masm_flat.proofs.Served.{comes_as}
 use Rattle.masm_flat.proofs.procedure.list_of_procedure.Goals as goal
@@ -7,22 +7,17 @@ use Rattle.masm_flat.proofs.procedure.list_of_procedure.Goals as goal
 pub returns-then-proc-eq0 : goal.returns-then-proc-eq0
 returns-then-proc-eq0 c =
     let p = c.args.proc.now in
-    let lent = c.deref.result.now in
     let same = c.deref.ensures.value in
     let none : p.locals ≡ 0 = omega (arith, c.if-proc-eq0.true) in
-    comes_as c.args.scope.now (uses_of (body_of lent)) (uses_of (body_of p.body.items))
-    (λ known. pieces_of c.new-list.result.items ++ flat_with as_tree known 0 (body_of lent))
-    (λ known. with_locals p.locals (flat_with as_tree known p.locals (body_of p.body.items))) (λ xs. xs) c.args.table.now c.flatten.new.table
-    (pieces_of c.flatten.new.out.items) (pieces_of c.flatten.new.out.items) (ap (λ xs. uses_of (body_of xs)) (sym same))
+    comes_as (λ xs. xs) c.in_ok-flatten.ensures (ap (λ xs. uses_of (body_of xs)) (sym same))
     (λ known. ap₂ (λ xs ys. pieces_of xs ++ flat_with as_tree known 0 (body_of ys)) c.new-list.ensures.items same
     ∙ (ap (λ n. flat_with as_tree known n (body_of p.body.items)) (sym none) ∙ sym (with_none p.locals _ none)))
-    refl c.in_ok-flatten.ensures
+    refl
 
 pub returns : goal.returns
 returns c =
     let p = c.args.proc.now in
     let n = p.locals in
-    let lent = c.deref-2.result.now in
     let same = c.deref-2.ensures.value in
     let some : 0 < n = omega (arith, c.if-proc-eq0.false) in
     let size : c.reduced-size.result ≡ n = omega (arith, c.reduced-size.ensures.is, c.from.ensures) in
@@ -34,11 +29,8 @@ returns c =
     ≡ pieces_of c.flatten-2.new.out.items ++ Operation (lit (prime - n)) ∷ Operation (plain_item FmpUpdate) ∷ [] =
     c.in_ok-add_move-2.ensures
     ∙ ap (λ m. pieces_of c.flatten-2.new.out.items ++ Operation (lit m) ∷ Operation (plain_item FmpUpdate) ∷ []) back in
-    comes_as c.args.scope.now (uses_of (body_of lent)) (uses_of (body_of p.body.items))
-    (λ known. pieces_of c.add_move.new.out.items ++ flat_with as_tree known n (body_of lent))
-    (λ known. with_locals n (flat_with as_tree known n (body_of p.body.items)))
-    (λ xs. xs ++ Operation (lit (prime - n)) ∷ Operation (plain_item FmpUpdate) ∷ []) c.args.table.now c.flatten-2.new.table
-    (pieces_of c.flatten-2.new.out.items) (pieces_of c.add_move-2.new.out.items) (ap (λ xs. uses_of (body_of xs)) (sym same))
+    comes_as (λ xs. xs ++ Operation (lit (prime - n)) ∷ Operation (plain_item FmpUpdate) ∷ []) c.in_ok-flatten-2.ensures
+    (ap (λ xs. uses_of (body_of xs)) (sym same))
     (λ known. ap₂ (λ xs ys. (xs ++ flat_with as_tree known n (body_of ys)) ++ Operation (lit (prime - n)) ∷ Operation (plain_item FmpUpdate) ∷ [])
     first same ∙ sym (with_some n _ some))
-    last c.in_ok-flatten-2.ensures
+    last

@@ -1,9 +1,8 @@
-use Rattle.std.proofs.Common.{◌≤◌, length, Vec, Global, sym, subst, ◌∙◌, rules, arith}
+use Rattle.std.proofs.Common.{◌≤◌, length, sym, subst, ◌∙◌, rules, arith}
 use Rattle.std.proofs.lemmas.List.{length-map}
-use Rattle.masm_graph.specs.declared.links.Link.{Link}
 use Rattle.graphs.specs.Graph.{rows_of}
 use Rattle.masm_graph.specs.Users.{HasOwn}
-use Rattle.masm_graph.proofs.UserLemmas.{row_read, rows-more, AreUsers-end}
+use Rattle.masm_graph.proofs.UserLemmas.{row_read, rows_ended, rows-more, AreUsers-end}
 use Rattle.masm_graph.proofs.users.users_of.Goals as goal
 
 pub add_uses-requires : goal.add_uses-requires
@@ -31,4 +30,4 @@ returns c =
     let ended : length c.args.rows.now ≤ c.loop-user.user = search rules in
     AreUsers-end (rows_of c.args.rows.now) _ c.loop-user.user
     (length-map c.loop-user.users.items _ ∙ (c.loop-user.invariant.1 ∙ sym (length-map c.args.rows.now _)))
-    (let l = length-map c.args.rows.now (λ (v : Vec Link Global). v.items) in omega arith) c.loop-user.invariant.0
+    (rows_ended c.args.rows.now c.loop-user.user ended) c.loop-user.invariant.0

@@ -1,4 +1,4 @@
-use Rattle.std.proofs.Common.{rules, arith, sym, ◌∙◌}
+use Rattle.std.proofs.Common.{sym, ◌∙◌}
 use Rattle.masm_instr.proofs.NameLemmas.{guessed, not_guessed, differs, none_differs}
 use Rattle.masm_instr.proofs.name.name_of.Goals as goal
 

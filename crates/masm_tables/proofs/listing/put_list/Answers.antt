@@ -4,5 +4,4 @@ use Rattle.masm_tables.proofs.listing.put_list.Goals as goal
 
 pub returns-then-step-clause-list : goal.returns-then-step-clause-list
 returns-then-step-clause-list c =
-    puts_one c.args.step.now.kept c.args.step.now.place _ _ c.args.table.now.lists.items _ c.kept.result c.if-step.true c.requires.place refl
-    c.kept.ensures
+    puts_one c.kept.result c.if-step.true c.requires.place refl c.kept.ensures

@@ -1,15 +1,12 @@
-use Rattle.masm_uses.proofs.Words.{◌≡◌, ◌<◌, ℕ, true, false, List, Vec, Global, map, length, get_or, sym, ap, subst, ◌∙◌, arith, length-map, All, rows_of}
-use Rattle.masm_uses.proofs.Words.{IsGraph, LeadsFrom, Link, dynexecs_in, own_places, places_referred, FindsLeast, Dynexecs}
+use Rattle.masm_uses.proofs.Words.{◌≡◌, ◌<◌, ℕ, true, false, List, Vec, Global, map, length, get_or, sym, ap, subst, ◌∙◌, length-map, All, rows_of}
+use Rattle.masm_uses.proofs.Words.{IsGraph, LeadsFrom, Link, dynexecs_in, own_places}
 use Rattle.masm_uses.proofs.DispatchLemmas.{Dynexecs-same}
+use Rattle.masm_uses.proofs.Lent.{count_of}
 use Rattle.masm_uses.proofs.dispatch.first_dispatch.Goals as goal
 
 graph_count : (rows : List (Vec Link Global)) (graph : List (Vec ℕ Global)) → rows_of graph ≡ map own_places (rows_of rows) → length rows ≡ length graph
 graph_count rows graph is =
-    let vecs = length-map graph (λ (v : Vec ℕ Global). v.items) in
-    let mapped = length-map (rows_of rows) own_places in
-    let links = length-map rows (λ (v : Vec Link Global). v.items) in
-    let same = ap length is in
-    omega arith
+    sym (count_of graph is ∙ (length-map (rows_of rows) own_places ∙ length-map rows (λ (v : Vec Link Global). v.items)))
 
 pub reached_from-requires-clause-graph : goal.reached_from-requires-clause-graph
 reached_from-requires-clause-graph c =
@@ -26,11 +23,5 @@ returns c =
     let graph = ap rows_of c.deref.ensures.value ∙ c.in_ok-graph.ensures in
     let starts = c.deref-2.ensures.value ∙ c.in_ok-targets.ensures in
     let rows = ap rows_of c.deref-4.ensures.value ∙ c.in_ok-dynexecs.ensures in
-    let marks = c.in_ok-marks.marks.items in
-    subst (λ g. FindsLeast (Dynexecs (LeadsFrom g (places_referred (rows_of c.args.rows.now) c.args.main.now)) (map dynexecs_in c.args.procs.now))
-    c.first_marked.result) graph
-    (subst (λ s. FindsLeast (Dynexecs (LeadsFrom (rows_of c.deref.result.now) s) (map dynexecs_in c.args.procs.now)) c.first_marked.result) starts
-    (Dynexecs-same (λ q. get_or marks q false ≡ true) (LeadsFrom (rows_of c.deref.result.now) c.deref-2.result.now) (map dynexecs_in c.args.procs.now)
-    c.first_marked.result c.in_ok-marks.ensures
-    (subst (λ ms. FindsLeast (Dynexecs (λ q. get_or ms q false ≡ true) (map dynexecs_in c.args.procs.now)) c.first_marked.result) c.deref-3.ensures.value
-    (subst (λ rs. FindsLeast (Dynexecs (λ q. get_or c.deref-3.result.now q false ≡ true) rs) c.first_marked.result) rows c.first_marked.ensures))))
+    rw (sym graph, sym starts) (Dynexecs-same (λ q. get_or c.in_ok-marks.marks.items q false ≡ true) (LeadsFrom (rows_of c.deref.result.now) c.deref-2.result.now)
+    (map dynexecs_in c.args.procs.now) c.first_marked.result c.in_ok-marks.ensures (rw (c.deref-3.ensures.value, rows) at c.first_marked.ensures))

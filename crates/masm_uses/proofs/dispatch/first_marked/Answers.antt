@@ -1,5 +1,5 @@
-use Rattle.masm_uses.proofs.Words.{◌≡◌, ◌≤◌, ◌<◌, ℕ, Bool, true, false, List, Option, get_or, length, Vec, Global, subst, ◌∙◌, arith, length-map, Position}
-use Rattle.masm_uses.proofs.Words.{rows_of, LinkCause, Refusal, Among, FindsLeast, IsRefusedDynexec, Among-more, Among-end, row_read, row_itself}
+use Rattle.masm_uses.proofs.Words.{◌≡◌, ℕ, Bool, true, false, List, Option, get_or, subst, ◌∙◌, Position}
+use Rattle.masm_uses.proofs.Words.{rows_of, LinkCause, Refusal, Among, FindsLeast, IsRefusedDynexec, Among-more, Among-end, row_read, row_itself, rows_within, rows_ended}
 use Rattle.masm_uses.proofs.dispatch.first_marked.Goals as goal
 
 -- the dynexecs of a row, where its place has a mark
@@ -17,8 +17,7 @@ loop-place-preserved c =
     let rows = rows_of c.args.rows.now in
     let i = c.loop-place.place in
     let row = c.deref.result.now in
-    let within : i < length rows = let l = length-map c.args.rows.now (λ (v : Vec Position Global). v.items) in let t =
-    c.loop-place-test.true in omega arith in
+    let within = rows_within c.args.rows.now i c.loop-place-test.true in
     let is = c.deref.ensures.value ∙ row_read c.args.rows.now i c.index-rows-place.result c.loop-place-test.true c.index-rows-place.is in
     rw c.earlier-first.ensures (Among-more (InRow marks) rows i row c.loop-place.first _ within
     (row_itself rows i row within is) c.loop-place.invariant
@@ -26,6 +25,5 @@ loop-place-preserved c =
 
 pub returns : goal.returns
 returns c =
-    let ended : length (rows_of c.args.rows.now) ≤ c.loop-place.place =
-    let l = length-map c.args.rows.now (λ (v : Vec Position Global). v.items) in let t = c.loop-place-test.false in omega arith in
+    let ended = rows_ended c.args.rows.now c.loop-place.place c.loop-place-test.false in
     Among-end (InRow c.args.marks.now) (rows_of c.args.rows.now) c.loop-place.place c.loop-place.first ended c.loop-place.invariant

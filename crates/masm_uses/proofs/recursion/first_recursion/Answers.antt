@@ -1,5 +1,5 @@
-use Rattle.masm_uses.proofs.Words.{ap, get_or, false, ◌≤◌, ◌<◌, Vec, Global, length, sym, subst, ◌∙◌, arith, length-map, Link, AmongFirst, Returns, rows_of}
-use Rattle.masm_uses.proofs.Words.{Leads, HasOwn, FindsLeast-with, Among-either, Among-end, row_read, row_itself, AreUsers-graph}
+use Rattle.masm_uses.proofs.Words.{ap, get_or, false, sym, subst, ◌∙◌, AmongFirst, Returns, rows_of}
+use Rattle.masm_uses.proofs.Words.{Leads, HasOwn, FindsLeast-with, Among-either, Among-end, row_read, row_itself, rows_within, rows_ended, AreUsers-graph}
 use Rattle.masm_uses.proofs.recursion.first_recursion.Goals as goal
 
 pub with_row-requires-clause-graph : goal.with_row-requires-clause-graph
@@ -20,8 +20,7 @@ loop-user-preserved c =
     let users = rows_of c.args.users.now in
     let i = c.loop-user.user in
     let row = c.deref-in-loop-user.result.now in
-    let within : i < length rows = let l = length-map c.args.rows.now (λ (v : Vec Link Global). v.items) in let t =
-    c.loop-user-test.true in omega arith in
+    let within = rows_within c.args.rows.now i c.loop-user-test.true in
     let is = c.deref-in-loop-user.ensures.value ∙ row_read c.args.rows.now i c.index-rows-user.result c.loop-user-test.true c.index-rows-user.is in
     Among-either (λ user row. Returns (Leads users user) row) rows i row c.in_ok-first.first within (row_itself rows i row within is)
     (FindsLeast-with (AmongFirst (λ user row. Returns (Leads users user) row) rows i) (Returns (Leads users i) row) c.loop-user.first c.in_ok-first.first
@@ -29,7 +28,6 @@ loop-user-preserved c =
 
 pub returns : goal.returns
 returns c =
-    let ended : length (rows_of c.args.rows.now) ≤ c.loop-user.user =
-    let l = length-map c.args.rows.now (λ (v : Vec Link Global). v.items) in let t = c.loop-user-test.false in omega arith in
+    let ended = rows_ended c.args.rows.now c.loop-user.user c.loop-user-test.false in
     Among-end (λ user row. Returns (Leads (rows_of c.args.users.now) user) row) (rows_of c.args.rows.now) c.loop-user.user c.loop-user.first ended
     c.loop-user.invariant

@@ -15,7 +15,7 @@ returns-then-not-is_last-clause-pieces c =
     let same = c.is_last-is_last.ensures.lists in
     let lists = c.is_last-is_last.new.self.lists.items in
     let low : c.args.place < length lists = omega (arith, c.len.ensures) in
-    on_ok c.add_copies.result _ _ (λ is.
+    on_ok c.add_copies.result (λ is.
     is ∙ ap (λ xs. pieces_of c.args.out.now.items ++ xs) (ap pieces_of c.deref.ensures.value
     ∙ (sym (list_read lists c.args.place c.index.result.now low c.index.ensures) ∙ ap (λ v. list_at v.items (Some c.args.place)) same)))
     c.add_copies.ensures
@@ -25,7 +25,7 @@ returns-clause-pieces c =
     let same = c.is_last-is_last.ensures.lists in
     let lists = c.is_last-is_last.new.self.lists.items in
     let low : c.args.place < length lists = omega (arith, c.len.ensures) in
-    on_ok c.add_moved.result _ _ (λ is.
+    on_ok c.add_moved.result (λ is.
     is ∙ ap (λ xs. pieces_of c.args.out.now.items ++ xs) (ap (λ v. pieces_of v.items) c.replace-list.ensures.value
     ∙ (sym (list_read lists c.args.place c.index_mut.result.now low c.index_mut.ensures.value) ∙ ap (λ v. list_at v.items (Some c.args.place)) same)))
     c.add_moved.ensures
@@ -35,7 +35,7 @@ returns-clause-taken c =
     let place = c.args.place in
     let same = c.is_last-is_last.ensures.lists in
     let lists = c.is_last-is_last.new.self.lists.items in
-    on_ok c.add_moved.result _ _ (λ is. record {
+    on_ok c.add_moved.result (λ is. record {
       left = c.is_last-is_last.ensures.left;
       others = λ q apart. got_other lists place q c.replace-list.new.dest apart ∙ ap (λ v. slice_get v.items q) same;
       stays = λ more. elim (eqb_tells (get_or c.args.self.now.left.items place 0) 1) [

@@ -1,5 +1,4 @@
-use Rattle.masm_tables.proofs.Words.{◌≡◌, Vec, Global, ap, ◌∙◌, as_tree, flat_with, lists_known, with_locals, pieces_of, body_of}
-use Rattle.masm_flat.specs.declared.piece.Piece.{Piece}
+use Rattle.masm_tables.proofs.Words.{ap, ◌∙◌, as_tree, flat_with, lists_known, with_locals, pieces_of, body_of}
 use Rattle.masm_tables.proofs.Put.{puts_as}
 use Rattle.masm_tables.proofs.listing.Listings.add_step.Goals as goal
 
@@ -11,6 +10,5 @@ returns-clause-list c =
     let made = c.in_ok-list.ensures in
     let listed_is = made.list ∙ ap (λ ds. with_locals p.locals (flat_with as_tree (lists_known a.names.now old.table.lists.items ds
     old.dispatch a.outside.now.exports.now) p.locals (body_of p.body.items))) c.as_slice.ensures.value in
-    puts_as a.step.now.kept a.step.now.place (λ (put : Vec Piece Global). put.items ≡ c.put_digest.new.list.items) _ _ _ old.table.lists.items
-    c.list_of_step.new.table.lists.items _ (λ q none. tt) made.others made.count
-    (λ is_so x is. ap pieces_of (is ∙ c.in_ok-put_digest.ensures.kept is_so) ∙ listed_is) c.put_list.ensures.list
+    puts_as (λ q none. tt) made.others made.count (λ is_so x is. ap pieces_of (is ∙ c.in_ok-put_digest.ensures.kept is_so) ∙ listed_is)
+    c.put_list.ensures.list
