@@ -1,209 +1,141 @@
 -- A cycle is done exactly where it is allowed, and leaves one state behind it.
-use Rattle.std.proofs.Common.{◌≡◌, ℕ, ◌<◌, ◌≤◌, Bool, true, false, cond, ltb, List, length, Option, Some, None, Result, Ok, Err, refl, ap, ◌∙◌, is_some}
-use Rattle.std.proofs.lemmas.Bool.{ltb-true, ltb-false, lt-ltb, le-ltb}
-use Rattle.vm_field.specs.Machine.{Core}
+use Rattle.std.proofs.Common.{◌≡◌, ℕ, ◌<◌, ◌≤◌, Bool, true, false, cond, ltb, List, length, Option, Some, None, Result, Ok, Err, refl, sym, ap, ◌∙◌, is_some}
+use Rattle.std.proofs.lemmas.Bool.{ltb-true, ltb-false, lt-ltb, le-ltb, false≢true}
+use Rattle.vm_field.specs.Machine.{Core, State}
 use Rattle.vm_ops.specs.declared.cause.Cause.{Cause}
 use Rattle.vm_ops.specs.declared.cause.Cause.TheVariants.{NestedTooDeep, NotBinary, UnknownTarget, BadBatch, CallInSyscall, NotInKernel, DepthAtReturn}
 use Rattle.vm_ops.specs.declared.item.Item.{Item}
 use Rattle.vm_ops.specs.Values.{trap_of}
 use Rattle.vm_ops.specs.Step.{act, seen, performed, unless_trapped}
 use Rattle.op_pack.specs.Reading.{reading}
-use Rattle.block_tree.specs.Cycles.{Cycle, Frame, Mark, StartOpaque, StartSpan, StartJoin, StartSplit, StartLoop, StartCall, StartSyscall, StartDyn, Respan, Repeat, Do, End, EndSpan, EndLoop, EndCall, EndSyscall, pops_bit, opens, closes, and_then, reads, finds, enters_call, is_in_kernel, enters_syscall, returns_to, effect_of, top}
+use Rattle.block_tree.specs.Cycles.{Cycle, Frame, Mark, StartOpaque, StartSpan, StartJoin, StartSplit, StartLoop, StartCall, StartSyscall, StartDyn, Respan, Repeat, Do, End, EndSpan, EndLoop, EndCall, EndSyscall, pops_bit, opens, closes, and_then, reads, finds, enters_call, is_in_kernel, enters_syscall, returns_to, effect_of, advice_taken, top}
 use Rattle.block_tree.specs.Behind.{opened, closed, popped, called, syscalled, returned, core_behind, HasReading, IsAllowed}
+use Rattle.block_tree.specs.Execution.{Event, Done, cycle}
+use Rattle.block_tree.proofs.Parts.{taking-inv}
 
--- the branch of a test by which a result is there
-if-ok : (b : Bool) (r : Result Core Cause) (cause : Cause) (d : Core) → cond b r (Err cause) ≡ Ok d → (b ≡ true) × (r ≡ Ok d)
-if-ok true r cause d e = (refl, e)
-if-ok false r cause d e = cc
+-- a result is there exactly where this holds, and is this state
+record Behaves (r : Result Core Cause) (P : Type 0) (d : Core) : Type 0 where
+  inv : (m : Core) → r ≡ Ok m → P × (m ≡ d)
+  done : P → r ≡ Ok d
 
-unless-ok : (b : Bool) (r : Result Core Cause) (cause : Cause) (d : Core) → cond b (Err cause) r ≡ Ok d → (b ≡ false) × (r ≡ Ok d)
-unless-ok true r cause d e = cc
-unless-ok false r cause d e = (refl, e)
+behaves-ok : (c : Core) → Behaves (Ok c) (Unit {0}) c
+behaves-ok c = record { inv = λ m e. (tt, cc); done = λ h. refl }
 
-abbrev pub fine : Core → Result Core Cause
-fine c = Ok c
+-- where a test is passed, and where it is not passed
+behaves-if : (b : Bool) {r : Result Core Cause} (cause : Cause) {d : Core} {P Q : Type 0} → (b ≡ true → P → Q) → (Q → (b ≡ true) × P) → Behaves r P d
+    → Behaves (cond b r (Err cause)) Q d
+behaves-if true cause f g k =
+    record { inv = λ m e. let h = k.inv m e in (f refl h.0, h.1); done = λ q. k.done (g q).1 }
+behaves-if false cause f g k = record { inv = λ m e. cc; done = λ q. absurd (false≢true (g q).0) }
 
-same-ok : (c d : Core) → fine c ≡ Ok d → d ≡ c
-same-ok c d e = cc
+behaves-unless : (b : Bool) {r : Result Core Cause} (cause : Cause) {d : Core} {P Q : Type 0} → (b ≡ false → P → Q) → (Q → (b ≡ false) × P)
+    → Behaves r P d → Behaves (cond b (Err cause) r) Q d
+behaves-unless false cause f g k =
+    record { inv = λ m e. let h = k.inv m e in (f refl h.0, h.1); done = λ q. k.done (g q).1 }
+behaves-unless true cause f g k = record { inv = λ m e. cc; done = λ q. absurd (false≢true (sym (g q).0)) }
 
-pub opens-inv : (effect : Cycle) (c d : Core) → opens effect c ≡ Ok d → (c.nesting < 1024) × (effect (opened c) ≡ Ok d)
+behaves-opens : (effect : Cycle) (c : Core) {d : Core} {P Q : Type 0} → (c.nesting < 1024 → P → Q) → (Q → (c.nesting < 1024) × P)
+    → Behaves (effect (opened c)) P d → Behaves (opens effect c) Q d
 unfolding opens
-opens-inv effect c d e =
-    let h : (ltb c.nesting 1024 ≡ true) × (effect (opened c) ≡ Ok d) = if-ok (ltb c.nesting 1024) (effect (opened c)) NestedTooDeep d e in
-    (ltb-true c.nesting 1024 h.0, h.1)
+behaves-opens effect c f g k =
+    behaves-if (ltb c.nesting 1024) NestedTooDeep (λ e p. f (ltb-true c.nesting 1024 e) p) (λ q. (lt-ltb c.nesting 1024 (g q).0, (g q).1)) k
 
-pub pops-inv : (c d : Core) → pops_bit c ≡ Ok d → (top c < 2) × (d ≡ popped c)
+behaves-opened : (effect : Cycle) (c : Core) {d : Core} {P : Type 0} → Behaves (effect (opened c)) P d → Behaves (opens effect c) ((c.nesting < 1024) × P) d
+behaves-opened effect c k = behaves-opens effect c (λ l p. (l, p)) (λ q. q) k
+
+behaves-pops : (c : Core) → Behaves (pops_bit c) (top c < 2) (popped c)
 unfolding pops_bit
-pops-inv c d e =
-    let h : (ltb (top c) 2 ≡ true) × (fine (popped c) ≡ Ok d) = if-ok (ltb (top c) 2) (Ok (popped c)) NotBinary d e in
-    (ltb-true (top c) 2 h.0, same-ok (popped c) d h.1)
+behaves-pops c =
+    behaves-if (ltb (top c) 2) NotBinary (λ e p. ltb-true (top c) 2 e) (λ q. (lt-ltb (top c) 2 q, tt)) (behaves-ok (popped c))
 
 some-reading : (batch : List ℕ) (o : Option (List Item)) → reading batch ≡ o → is_some o ≡ true → HasReading batch
 some-reading batch None e h = cc
 some-reading batch (Some items) e h = (items, e)
 
-pub reads-inv : (batch : List ℕ) (c d : Core) → reads batch c ≡ Ok d → HasReading batch × (d ≡ c)
+behaves-reads : (batch : List ℕ) (c : Core) → Behaves (reads batch c) (HasReading batch) c
 unfolding reads
-reads-inv batch c d e =
-    let h : (is_some (reading batch) ≡ true) × (fine c ≡ Ok d) = if-ok (is_some (reading batch)) (Ok c) BadBatch d e in
-    (some-reading batch (reading batch) refl h.0, same-ok c d h.1)
+behaves-reads batch c =
+    behaves-if (is_some (reading batch)) BadBatch (λ e p. some-reading batch _ refl e) (λ q. (ap is_some q.1, tt)) (behaves-ok c)
 
-finds-inv : (known : Bool) (c d : Core) → finds known c ≡ Ok d → (known ≡ true) × (d ≡ c)
+behaves-finds : (known : Bool) (c : Core) → Behaves (finds known c) (known ≡ true) c
 unfolding finds
-finds-inv known c d e =
-    let h : (known ≡ true) × (fine c ≡ Ok d) = if-ok known (Ok c) UnknownTarget d e in
-    (h.0, same-ok c d h.1)
+behaves-finds known c = behaves-if known UnknownTarget (λ e p. e) (λ q. (q, tt)) (behaves-ok c)
 
-pub closes-inv : (c d : Core) → closes c ≡ Ok d → d ≡ closed c
+behaves-closes : (c : Core) → Behaves (closes c) (Unit {0}) (closed c)
 unfolding closes
-closes-inv c d e = same-ok (closed c) d e
+behaves-closes c = behaves-ok (closed c)
 
-pub call-inv : (callee : List ℕ) (c d : Core) → enters_call callee c ≡ Ok d → (c.in_syscall ≡ false) × (d ≡ called callee c)
+behaves-call : (callee : List ℕ) (c : Core) → Behaves (enters_call callee c) (c.in_syscall ≡ false) (called callee c)
 unfolding enters_call
-call-inv callee c d e =
-    let h : (c.in_syscall ≡ false) × (fine (called callee c) ≡ Ok d) = unless-ok c.in_syscall (Ok (called callee c)) CallInSyscall d e in
-    (h.0, same-ok (called callee c) d h.1)
+behaves-call callee c = behaves-unless c.in_syscall CallInSyscall (λ e p. e) (λ q. (q, tt)) (behaves-ok (called callee c))
 
-pub syscall-inv : (kernel : List (List ℕ)) (callee : List ℕ) (c d : Core) → enters_syscall kernel callee c ≡ Ok d
-    → (c.in_syscall ≡ false) × (is_in_kernel kernel callee ≡ true) × (d ≡ syscalled c)
+behaves-syscall : (kernel : List (List ℕ)) (callee : List ℕ) (c : Core)
+    → Behaves (enters_syscall kernel callee c) ((c.in_syscall ≡ false) × (is_in_kernel kernel callee ≡ true)) (syscalled c)
 unfolding enters_syscall
-syscall-inv kernel callee c d e =
-    let h : (c.in_syscall ≡ false) × (cond (is_in_kernel kernel callee) (Ok (syscalled c)) (Err NotInKernel) ≡ Ok d)
-    = unless-ok c.in_syscall (cond (is_in_kernel kernel callee) (Ok (syscalled c)) (Err NotInKernel)) CallInSyscall d e in
-    let g : (is_in_kernel kernel callee ≡ true) × (fine (syscalled c) ≡ Ok d) =
-    if-ok (is_in_kernel kernel callee) (Ok (syscalled c)) NotInKernel d h.1 in
-    (h.0, g.0, same-ok (syscalled c) d g.1)
+behaves-syscall kernel callee c =
+    behaves-unless c.in_syscall CallInSyscall (λ e p. (e, p)) (λ q. q)
+    (behaves-if (is_in_kernel kernel callee) NotInKernel (λ e p. e) (λ q. (q, tt)) (behaves-ok (syscalled c)))
 
-pub returns-inv : (frame : Frame) (c d : Core) → returns_to frame c ≡ Ok d → (length c.stack ≤ 16) × (d ≡ returned frame c)
+behaves-returns : (frame : Frame) (c : Core) → Behaves (returns_to frame c) (length c.stack ≤ 16) (returned frame c)
 unfolding returns_to
-returns-inv frame c d e =
-    let h : (ltb 16 (length c.stack) ≡ false) × (fine (returned frame c) ≡ Ok d)
-    = unless-ok (ltb 16 (length c.stack)) (Ok (returned frame c)) DepthAtReturn d e in
-    (ltb-false 16 (length c.stack) h.0, same-ok (returned frame c) d h.1)
+behaves-returns frame c =
+    behaves-unless (ltb 16 (length c.stack)) DepthAtReturn (λ e p. ltb-false 16 (length c.stack) e)
+    (λ q. (le-ltb 16 (length c.stack) q, tt)) (behaves-ok (returned frame c))
 
-unless-inv : (o : Option Cause) (c d : Core) → unless_trapped o c ≡ Ok d → (o ≡ None) × (d ≡ c)
-unless-inv None c d e = (refl, same-ok c d e)
-unless-inv (Some cause) c d e = cc
-
-pub act-inv : (constants : List ℕ) (item : Item) (advice : List ℕ) (c d : Core) → act constants item advice c ≡ Ok d
-    → (trap_of item.op (seen constants item advice c) ≡ None) × (d ≡ performed item.op (seen constants item advice c) c)
+behaves-act : (constants : List ℕ) (item : Item) (advice : List ℕ) (c : Core)
+    → Behaves (act constants item advice c) (trap_of item.op (seen constants item advice c) ≡ None) (performed item.op (seen constants item advice c) c)
 unfolding act
-act-inv constants item advice c d e =
-    unless-inv (trap_of item.op (seen constants item advice c)) (performed item.op (seen constants item advice c) c) d e
+behaves-act constants item advice c = go (trap_of item.op (seen constants item advice c)) (performed item.op (seen constants item advice c) c)
+  where
+    go : (o : Option Cause) (d : Core) → Behaves (unless_trapped o d) (o ≡ None) d
+    go None d = record { inv = λ m e. (refl, cc); done = λ h. refl }
+    go (Some cause) d = record { inv = λ m e. cc; done = λ h. cc }
 
--- a cycle and what the same cycle then does
-and-inv : (r : Result Core Cause) (effect : Cycle) (d : Core) → and_then r effect ≡ Ok d → (m : Core) × (r ≡ Ok m) × (effect m ≡ Ok d)
-and-inv (Ok m) effect d e = (m, refl, e)
-and-inv (Err cause) effect d e = cc
+-- a cycle, and what the same cycle then does
+behaves-and : (r : Result Core Cause) (effect : Cycle) (c d : Core) {P : Type 0} → Behaves r P c → Behaves (effect c) (Unit {0}) d
+    → Behaves (and_then r effect) P d
+behaves-and (Ok m) effect c d k l = record {
+  inv = λ n e. let h = k.inv m refl in (h.0, (l.inv n (ap effect (sym h.1) ∙ e)).1);
+  done = λ h. ap effect (k.inv m refl).1 ∙ l.done tt;
+}
+behaves-and (Err cause) effect c d k l = record { inv = λ n e. cc; done = λ h. let e = k.done h in cc }
 
-loop-inv : (c d : Core) → and_then (pops_bit c) closes ≡ Ok d → (top c < 2) × (d ≡ closed (popped c))
-loop-inv c d e =
-    let h : (m : Core) × (pops_bit c ≡ Ok m) × (closes m ≡ Ok d) = and-inv (pops_bit c) closes d e in
-    let p : (top c < 2) × (h.0 ≡ popped c) = pops-inv c h.0 h.1 in
-    (p.0, closes-inv h.0 d h.2 ∙ ap closed p.1)
-
-opens-done : (effect : Cycle) (c : Core) → c.nesting < 1024 → opens effect c ≡ effect (opened c)
-unfolding opens
-opens-done effect c h = rw (lt-ltb c.nesting 1024 h) refl
-
-pops-done : (c : Core) → top c < 2 → pops_bit c ≡ Ok (popped c)
-unfolding pops_bit
-pops-done c h = rw (lt-ltb (top c) 2 h) refl
-
-reads-done : (batch : List ℕ) (c : Core) → HasReading batch → reads batch c ≡ Ok c
-unfolding reads
-reads-done batch c h = rw h.1 refl
-
-finds-done : (known : Bool) (c : Core) → known ≡ true → finds known c ≡ Ok c
-unfolding finds
-finds-done known c h = ap (λ b. cond b (fine c) (Err UnknownTarget)) h
-
-call-done : (callee : List ℕ) (c : Core) → c.in_syscall ≡ false → enters_call callee c ≡ Ok (called callee c)
-unfolding enters_call
-call-done callee c h = ap (λ b. cond b (Err CallInSyscall) (fine (called callee c))) h
-
-syscall-done : (kernel : List (List ℕ)) (callee : List ℕ) (c : Core) → c.in_syscall ≡ false → is_in_kernel kernel callee ≡ true
-    → enters_syscall kernel callee c ≡ Ok (syscalled c)
-unfolding enters_syscall
-syscall-done kernel callee c h g =
-    ap (λ b. cond b (Err CallInSyscall) (cond (is_in_kernel kernel callee) (fine (syscalled c)) (Err NotInKernel))) h
-    ∙ ap (λ b. cond b (fine (syscalled c)) (Err NotInKernel)) g
-
-returns-done : (frame : Frame) (c : Core) → length c.stack ≤ 16 → returns_to frame c ≡ Ok (returned frame c)
-unfolding returns_to
-returns-done frame c h = rw (le-ltb 16 (length c.stack) h) refl
-
-act-done : (constants : List ℕ) (item : Item) (advice : List ℕ) (c : Core) → trap_of item.op (seen constants item advice c) ≡ None
-    → act constants item advice c ≡ Ok (performed item.op (seen constants item advice c) c)
-unfolding act
-act-done constants item advice c h = ap (λ o. unless_trapped o (performed item.op (seen constants item advice c) c)) h
-
-loop-done : (c : Core) → top c < 2 → and_then (pops_bit c) closes ≡ Ok (closed (popped c))
-unfolding closes
-loop-done c h = ap (λ r. and_then r closes) (pops-done c h)
-
-closes-done : (c : Core) → closes c ≡ Ok (closed c)
-unfolding closes
-closes-done c = refl
+abbrev pub fine : Core → Result Core Cause
+fine c = Ok c
 
 module _ (constants : List ℕ) (kernel : List (List ℕ)) where
+  behaves : (mark : Mark) (advice : List ℕ) (c : Core)
+      → Behaves (effect_of constants kernel mark advice c) (IsAllowed constants kernel mark advice c) (core_behind constants mark advice c)
+  behaves StartOpaque advice c = behaves-opens _ c (λ l p. p) (λ q. absurd q) (record { inv = λ m e. cc; done = λ h. absurd h })
+  behaves (StartSpan batch) advice c = behaves-opened _ c (behaves-reads batch (opened c))
+  behaves (StartJoin first second) advice c = behaves-opens _ c (λ l p. l) (λ q. (q, tt)) (behaves-ok (opened c))
+  behaves (StartSplit on_one on_zero) advice c = behaves-opened _ c (behaves-pops (opened c))
+  behaves (StartLoop body) advice c = behaves-opened _ c (behaves-pops (opened c))
+  behaves (StartCall callee) advice c = behaves-opened _ c (behaves-call callee (opened c))
+  behaves (StartSyscall callee) advice c =
+      behaves-opens _ c (λ l p. (l, p.0, p.1)) (λ q. (q.0, (q.1, q.2))) (behaves-syscall kernel callee (opened c))
+  behaves (StartDyn known) advice c = behaves-opened _ c (behaves-finds known (opened c))
+  behaves (Respan batch) advice c = behaves-reads batch c
+  behaves (Repeat body) advice c = behaves-pops c
+  behaves (Do item) advice c = behaves-act constants item advice c
+  behaves (End digest) advice c = behaves-closes c
+  behaves (EndSpan digest) advice c = behaves-closes c
+  behaves (EndLoop digest) advice c = behaves-and (pops_bit c) closes (popped c) _ (behaves-pops c) (behaves-closes (popped c))
+  behaves (EndCall digest frame) advice c = behaves-returns frame c
+  behaves (EndSyscall digest frame) advice c = behaves-returns frame c
+
   -- of a cycle that is done: it was allowed, and the state behind it
   pub behind-cycle : (mark : Mark) (advice : List ℕ) (c d : Core) → effect_of constants kernel mark advice c ≡ Ok d
       → IsAllowed constants kernel mark advice c × (d ≡ core_behind constants mark advice c)
-  behind-cycle StartOpaque advice c d e = let h = opens-inv _ c d e in cc h.1
-  behind-cycle (StartSpan batch) advice c d e =
-      let h = opens-inv (reads batch) c d e in
-      let r = reads-inv batch (opened c) d h.1 in
-      ((h.0, r.0), r.1)
-  behind-cycle (StartJoin first second) advice c d e =
-      let h = opens-inv (λ x. Ok x) c d e in
-      (h.0, same-ok (opened c) d h.1)
-  behind-cycle (StartSplit on_one on_zero) advice c d e =
-      let h = opens-inv pops_bit c d e in
-      let p = pops-inv (opened c) d h.1 in
-      ((h.0, p.0), p.1)
-  behind-cycle (StartLoop body) advice c d e =
-      let h = opens-inv pops_bit c d e in
-      let p = pops-inv (opened c) d h.1 in
-      ((h.0, p.0), p.1)
-  behind-cycle (StartCall callee) advice c d e =
-      let h = opens-inv (enters_call callee) c d e in
-      let p = call-inv callee (opened c) d h.1 in
-      ((h.0, p.0), p.1)
-  behind-cycle (StartSyscall callee) advice c d e =
-      let h = opens-inv (enters_syscall kernel callee) c d e in
-      let p = syscall-inv kernel callee (opened c) d h.1 in
-      ((h.0, p.0, p.1), p.2)
-  behind-cycle (StartDyn known) advice c d e =
-      let h = opens-inv (finds known) c d e in
-      let r = finds-inv known (opened c) d h.1 in
-      ((h.0, r.0), r.1)
-  behind-cycle (Respan batch) advice c d e = reads-inv batch c d e
-  behind-cycle (Repeat body) advice c d e = pops-inv c d e
-  behind-cycle (Do item) advice c d e = act-inv constants item advice c d e
-  behind-cycle (End digest) advice c d e = (tt, closes-inv c d e)
-  behind-cycle (EndSpan digest) advice c d e = (tt, closes-inv c d e)
-  behind-cycle (EndLoop digest) advice c d e = loop-inv c d e
-  behind-cycle (EndCall digest frame) advice c d e = returns-inv frame c d e
-  behind-cycle (EndSyscall digest frame) advice c d e = returns-inv frame c d e
+  behind-cycle mark advice c d e = (behaves mark advice c).inv d e
 
   -- and a cycle that is allowed is done
   pub allowed-cycle : (mark : Mark) (advice : List ℕ) (c : Core) → IsAllowed constants kernel mark advice c
       → effect_of constants kernel mark advice c ≡ Ok (core_behind constants mark advice c)
-  allowed-cycle StartOpaque advice c h = absurd h
-  allowed-cycle (StartSpan batch) advice c h = opens-done (reads batch) c h.0 ∙ reads-done batch (opened c) h.1
-  allowed-cycle (StartJoin first second) advice c h = opens-done fine c h
-  allowed-cycle (StartSplit on_one on_zero) advice c h = opens-done pops_bit c h.0 ∙ pops-done (opened c) h.1
-  allowed-cycle (StartLoop body) advice c h = opens-done pops_bit c h.0 ∙ pops-done (opened c) h.1
-  allowed-cycle (StartCall callee) advice c h = opens-done (enters_call callee) c h.0 ∙ call-done callee (opened c) h.1
-  allowed-cycle (StartSyscall callee) advice c h =
-      opens-done (enters_syscall kernel callee) c h.0 ∙ syscall-done kernel callee (opened c) h.1 h.2
-  allowed-cycle (StartDyn known) advice c h = opens-done (finds known) c h.0 ∙ finds-done known (opened c) h.1
-  allowed-cycle (Respan batch) advice c h = reads-done batch c h
-  allowed-cycle (Repeat body) advice c h = pops-done c h
-  allowed-cycle (Do item) advice c h = act-done constants item advice c h
-  allowed-cycle (End digest) advice c h = closes-done c
-  allowed-cycle (EndSpan digest) advice c h = closes-done c
-  allowed-cycle (EndLoop digest) advice c h = loop-done c h
-  allowed-cycle (EndCall digest frame) advice c h = returns-done frame c h
-  allowed-cycle (EndSyscall digest frame) advice c h = returns-done frame c h
+  allowed-cycle mark advice c h = (behaves mark advice c).done h
+
+  pub cycle-allowed : (limit : ℕ) (mark : Mark) (s t : State) (es : List Event) → cycle constants kernel limit mark s ≡ Done t es
+      → (advice : List ℕ) × IsAllowed constants kernel mark advice s.core
+  cycle-allowed limit mark s t es e =
+      let c = taking-inv limit mark (advice_taken mark) (effect_of constants kernel mark) s t es e in
+      (_, (behind-cycle mark _ s.core c.core c.made).0)

@@ -4,49 +4,43 @@ use Rattle.std.proofs.lemmas.Bool.{cases_lt}
 use Rattle.std.proofs.lemmas.List.{take_at}
 use Rattle.vm_field.specs.Machine.{State}
 use Rattle.vm_ops.specs.declared.cause.Cause.{Cause}
-use Rattle.block_tree.specs.CutLaws.{AreFirst, IsCut, IsCutAt}
+use Rattle.block_tree.specs.CutLaws.{AreFirst, GoesOn, IsCut, IsCutAt}
 use Rattle.block_tree.specs.Execution.{Event, Outcome, Done, Trap, OutOfCycles, IsCutOff, cut_off, execution}
 use Rattle.block_tree.specs.Trees.{Tree}
-use Rattle.block_tree.proofs.Limits.{execution-cut, execution-late, execution-tracks}
-use Rattle.block_tree.proofs.Parts.{done-not_late, done-state}
+use Rattle.block_tree.proofs.Courses.{Course, finished, course-same, course-along, course-done, course-of}
+use Rattle.block_tree.proofs.Keeping.{cycle-ticks}
+use Rattle.block_tree.proofs.Limits.{ended-tracks, execution-cut, execution-late, execution-tracks}
+use Rattle.block_tree.proofs.Parts.{done-not_late, taking-inv, taking-within}
 use Rattle.block_tree.proofs.Tracks.{Tracks}
 
-abbrev clock_in : ℕ → Outcome → ℕ
-clock_in d (Done t es) = d
-clock_in d (Trap clock cause) = clock
-clock_in d (OutOfCycles t es) = d
+-- an outcome that does not end before the limit
+abbrev IsBehind : ℕ → Outcome → Type 0
+IsBehind limit (Done t es) = limit < t.core.clock
+IsBehind limit (Trap clock cause) = limit ≤ clock
+IsBehind limit (OutOfCycles t es) = Unit {0}
 
-abbrev IsTrap : Outcome → Type 0
-IsTrap (Done t es) = ⊥
-IsTrap (Trap clock cause) = Unit {0}
-IsTrap (OutOfCycles t es) = ⊥
+-- a run that is cut off, and how it goes on
+record CutOff (limit : ℕ) (s : State) (o p : Outcome) : Type 0 where
+  events : List Event
+  cut : IsCut limit s o events
+  on : GoesOn limit events p
 
-trap-not_done : (clock : ℕ) (cause : Cause) (t : State) (es : List Event) → Done t es ≡ Trap clock cause → ⊥
-trap-not_done clock cause t es e = subst IsTrap (sym e) tt
-
-trap-not_late : (clock : ℕ) (cause : Cause) (t : State) (es : List Event) → OutOfCycles t es ≡ Trap clock cause → ⊥
-trap-not_late clock cause t es e = subst IsTrap (sym e) tt
-
-same-clock : (clock clock' : ℕ) (cause cause' : Cause) → Trap clock cause ≡ Trap clock' cause' → clock ≡ clock'
-same-clock clock clock' cause cause' e = ap (clock_in clock) e
+cut-here : (limit floor : ℕ) (s : State) (o p : Outcome) → Tracks limit floor s o → IsCutAt limit o p → IsBehind limit p → CutOff limit s o p
+cut-here limit floor s (Done t es) p tracks h later =
+    let above : limit < t.core.clock = subst (IsBehind limit) h.0 later in let below = h.1 in absurd (omega arith)
+cut-here limit floor s (Trap clock cause) p tracks h later =
+    let above : limit ≤ clock = subst (IsBehind limit) h.0 later in let below = h.1 in absurd (omega arith)
+cut-here limit floor s (OutOfCycles t es) p tracks h later =
+    let counts : t.core.clock ≡ s.core.clock + length es = tracks.0 in
+    let clock : t.core.clock ≡ limit = h.0 in
+    record { events = es; cut = record { state = t; cut = refl; clock = clock; count = omega arith }; on = h.1 }
 
 -- the first events by their number
-first-taken : (n : ℕ) (first all : List Event) → AreFirst first all → length first ≡ n → first ≡ take n all
-first-taken n first all h e = sym (ap (take n) h.is ∙ take_at first h.rest n e)
-
-cut-here : (limit floor : ℕ) (s u : State) (o : Outcome) (es events : List Event) → o ≡ OutOfCycles u es → Tracks limit floor s (OutOfCycles u es)
-    → es ≡ events → IsCut limit s o events
-cut-here limit floor s u o es events is t same =
-    let counts : u.core.clock ≡ s.core.clock + length es = t.0 in
-    let clock : u.core.clock ≡ limit = t.1 in
-    subst (λ x. IsCut limit s o x) same (record { state = u; cut = is; clock = clock; count = omega arith })
-
-cut-first : (limit floor : ℕ) (s u : State) (o : Outcome) (es all : List Event) → o ≡ OutOfCycles u es → Tracks limit floor s (OutOfCycles u es)
-    → AreFirst es all → IsCut limit s o (take (limit - s.core.clock) all)
-cut-first limit floor s u o es all is t h =
-    let counts : u.core.clock ≡ s.core.clock + length es = t.0 in
-    let clock : u.core.clock ≡ limit = t.1 in
-    cut-here limit floor s u o es (take (limit - s.core.clock) all) is t (first-taken (limit - s.core.clock) es all h (omega arith))
+cut-first : (limit : ℕ) (s : State) (o : Outcome) (es all : List Event) → IsCut limit s o es → AreFirst es all
+    → IsCut limit s o (take (limit - s.core.clock) all)
+cut-first limit s o es all cut h =
+    let counts = cut.count in
+    subst (IsCut limit s o) (sym (ap (take (limit - s.core.clock)) h.is ∙ take_at es h.rest (limit - s.core.clock) (omega arith))) cut
 
 module _ (constants : List ℕ) (kernel : List (List ℕ)) where
   pub cut-at : (limit : ℕ) (tree : Tree) (s t : State) (es : List Event) → s.core.clock ≤ limit → execution constants kernel limit tree s ≡ OutOfCycles t es
@@ -58,85 +52,46 @@ module _ (constants : List ℕ) (kernel : List (List ℕ)) where
       let clock : t.core.clock ≡ limit = tracks.1 in
       (clock, omega arith)
 
-  -- a run that traps or is done began below the limit
-  began : (limit : ℕ) (tree : Tree) (s : State) (o : Outcome) → execution constants kernel limit tree s ≡ o → (OutOfCycles s [] ≡ o → ⊥)
-      → s.core.clock < limit
-  began limit tree s o e other = ⊎_elim
-      (λ l. l)
-      (λ l. absurd (other (sym (execution-late constants kernel limit tree s l) ∙ e)))
-      (cases_lt s.core.clock limit)
+  -- a run that does not end before a smaller limit is cut off there
+  cut-within : (limit other : ℕ) (tree : Tree) (s : State) (p : Outcome) → execution constants kernel limit tree s ≡ p
+      → s.core.clock ≤ other → other ≤ limit → IsBehind other p → CutOff other s (execution constants kernel other tree s) p
+  cut-within limit other tree s p e from short later =
+      cut-here other (s.core.clock + 1) s _ p (execution-tracks constants kernel other tree s from)
+      (subst (IsCutAt other (execution constants kernel other tree s)) e (execution-cut constants kernel other limit short tree s from)) later
 
   pub cut-trap : (limit clock : ℕ) (cause : Cause) (tree : Tree) (s : State) → execution constants kernel limit tree s ≡ Trap clock cause
       → (events : List Event) × IsCut clock s (execution constants kernel clock tree s) events
   cut-trap limit clock cause tree s e =
-      let before : s.core.clock < limit = began limit tree s (Trap clock cause) e (trap-not_late clock cause s []) in
-      let tracks : Tracks limit (s.core.clock + 1) s (Trap clock cause)
-      = subst (Tracks limit (s.core.clock + 1) s) e (execution-tracks constants kernel limit tree s (omega arith)) in
-      let from : s.core.clock ≤ clock = tracks.0 in
+      let tracks = (ended-tracks constants kernel limit tree s (Trap clock cause) e (λ x. cc)).1 in
       let within : clock < limit = tracks.1 in
-      go (execution constants kernel clock tree s) refl (execution-tracks constants kernel clock tree s from)
-      (subst (IsCutAt clock (execution constants kernel clock tree s)) e (execution-cut constants kernel clock limit (omega arith) tree s from))
-    where
-      go : (o : Outcome) → execution constants kernel clock tree s ≡ o → Tracks clock (s.core.clock + 1) s o → IsCutAt clock o (Trap clock cause)
-          → (events : List Event) × IsCut clock s (execution constants kernel clock tree s) events
-      go (Done t es) is t' h = absurd (trap-not_done clock cause t es (sym h.0))
-      go (Trap clock' cause') is t' h =
-          let same : clock ≡ clock' = same-clock clock clock' cause cause' h.0 in
-          let earlier : clock' < clock = h.1 in
-          absurd (omega arith)
-      go (OutOfCycles t es) is t' h = (es, cut-here clock (s.core.clock + 1) s t _ es es is t' refl)
+      let cut = cut-within limit clock tree s (Trap clock cause) e tracks.0 (omega arith) (omega arith) in
+      (cut.events, cut.cut)
 
   pub cut-end : (limit other : ℕ) (tree : Tree) (s t : State) (events : List Event) → execution constants kernel limit tree s ≡ Done t events
       → s.core.clock ≤ other → other < t.core.clock → IsCut other s (execution constants kernel other tree s) (take (other - s.core.clock) events)
   cut-end limit other tree s t events e from short =
-      let before : s.core.clock < limit = began limit tree s (Done t events) e (done-not_late s t [] events) in
-      let tracks : Tracks limit (s.core.clock + 1) s (Done t events)
-      = subst (Tracks limit (s.core.clock + 1) s) e (execution-tracks constants kernel limit tree s (omega arith)) in
-      let within : t.core.clock ≤ limit = tracks.1 in
-      go (execution constants kernel other tree s) refl (execution-tracks constants kernel other tree s from)
-      (subst (IsCutAt other (execution constants kernel other tree s)) e (execution-cut constants kernel other limit (omega arith) tree s from))
-    where
-      go : (o : Outcome) → execution constants kernel other tree s ≡ o → Tracks other (s.core.clock + 1) s o → IsCutAt other o (Done t events)
-          → IsCut other s (execution constants kernel other tree s) (take (other - s.core.clock) events)
-      go (Done u es) is t' h =
-          let same : t.core.clock ≡ u.core.clock = ap (λ x. x.core.clock) (done-state t u events es h.0) in
-          let early : u.core.clock ≤ other = h.1 in
-          absurd (omega arith)
-      go (Trap clock cause) is t' h = absurd (trap-not_done clock cause t events h.0)
-      go (OutOfCycles u es) is t' h = cut-first other (s.core.clock + 1) s u _ es events is t' h.1.1
+      let within : t.core.clock ≤ limit = (ended-tracks constants kernel limit tree s (Done t events) e (done-not_late s t [] events)).1.1 in
+      let cut = cut-within limit other tree s (Done t events) e from (omega arith) short in
+      cut-first other s _ cut.events events cut.cut cut.on.1
 
   pub cut-limit : (limit other : ℕ) (tree : Tree) (s t : State) (events : List Event) → execution constants kernel limit tree s ≡ OutOfCycles t events
       → s.core.clock ≤ other → other ≤ limit → IsCut other s (execution constants kernel other tree s) (take (other - s.core.clock) events)
   cut-limit limit other tree s t events e from short =
-      go (execution constants kernel other tree s) refl (execution-tracks constants kernel other tree s from)
-      (subst (IsCutAt other (execution constants kernel other tree s)) e (execution-cut constants kernel other limit short tree s from))
-    where
-      go : (o : Outcome) → execution constants kernel other tree s ≡ o → Tracks other (s.core.clock + 1) s o → IsCutAt other o (OutOfCycles t events)
-          → IsCut other s (execution constants kernel other tree s) (take (other - s.core.clock) events)
-      go (Done u es) is t' h = absurd (done-not_late t u events es h.0)
-      go (Trap clock cause) is t' h = absurd (trap-not_late clock cause t events h.0)
-      go (OutOfCycles u es) is t' h = cut-first other (s.core.clock + 1) s u _ es events is t' h.1.1
+      let cut = cut-within limit other tree s (OutOfCycles t events) e from short tt in cut-first other s _ cut.events events cut.cut cut.on.1
 
   -- what is done within one limit is done within each that its clock allows
   pub execution-again : (limit other : ℕ) (tree : Tree) (s t : State) (es : List Event) → execution constants kernel limit tree s ≡ Done t es
       → t.core.clock ≤ other → execution constants kernel other tree s ≡ Done t es
-  execution-again limit other tree s t es e room =
-      let before : s.core.clock < limit = began limit tree s (Done t es) e (done-not_late s t [] es) in
-      let tracks : Tracks limit (s.core.clock + 1) s (Done t es)
-      = subst (Tracks limit (s.core.clock + 1) s) e (execution-tracks constants kernel limit tree s (omega arith)) in
-      let above : s.core.clock + 1 ≤ t.core.clock = tracks.2 in
-      ⊎_elim
-      (λ l. (subst (λ o. IsCutAt limit o (execution constants kernel other tree s)) e
-      (execution-cut constants kernel limit other (omega arith) tree s (omega arith))).0)
-      (λ l. go (execution constants kernel other tree s) refl
-      (subst (IsCutAt other (execution constants kernel other tree s)) e
-      (execution-cut constants kernel other limit l tree s (omega arith))))
-      (cases_lt limit other)
-    where
-      go : (o : Outcome) → execution constants kernel other tree s ≡ o → IsCutAt other o (Done t es) → execution constants kernel other tree s ≡ Done t es
-      go (Done u fs) is h = is ∙ sym h.0
-      go (Trap clock cause) is h = absurd (trap-not_done clock cause t es h.0)
-      go (OutOfCycles u fs) is h = let late : other < t.core.clock = h.1.0 in absurd (omega arith)
+  execution-again limit other tree s t es e room = course-same constants kernel other (course-of constants kernel other tree s)
+      ((course-along constants kernel limit
+      (λ todo s es t. (s.core.clock ≤ t.core.clock) × (t.core.clock ≤ other → Course constants kernel other todo s (Done t es)))
+      (λ s. (omega arith, λ l. finished))
+      (λ task todo s t u es fs e h.
+      let ticks = cycle-ticks constants kernel limit _ s t es e in
+      let before = (taking-inv limit _ _ _ s t es e).before in
+      let later = h.0 in
+      (omega arith, λ l. course-done constants kernel other _ es refl (taking-within other limit _ _ _ s (omega arith) before ∙ e) (h.1 l)))
+      (course-of constants kernel limit tree s) t es e).1 room)
 
   -- and is cut off within each other
   pub execution-short : (limit other : ℕ) (tree : Tree) (s t : State) (es : List Event) → execution constants kernel limit tree s ≡ Done t es

@@ -1,19 +1,16 @@
 -- Words that are distinct, one at a time.
-use Rattle.std.proofs.Common.{◌≡◌, ◌↔◌, ℕ, Bool, true, false, not, ◌||◌, nat_eq, IsTrue, List, [], ◌∷◌, length, arith, sym, refl, ◌∙◌, true≢false}
+use Rattle.std.proofs.Common.{◌≡◌, ◌↔◌, ℕ, Bool, true, false, not, nat_eq, IsTrue, List, [], ◌∷◌, length, arith, sym, refl, ◌∙◌, true≢false}
 use Rattle.std.specs.List.{IsDistinct, AllByRecursion, list_any}
+use Rattle.std.proofs.lemmas.Bool.{or_parts}
 use Rattle.std.proofs.lemmas.Cmp.{nat_list_eq_equiv}
 use lib.Pointwise.{pointwise}
 use Rattle.block_tree.specs.Kernels.{AreDistinct}
-
-or-false : (a b : Bool) → (a || b) ≡ false → (a ≡ false) × (b ≡ false)
-or-false true b h = absurd (true≢false h)
-or-false false b h = (refl, h)
 
 apart : (x : List ℕ) (xs : List (List ℕ)) → list_any (λ y. pointwise nat_eq y x) xs ≡ false → AllByRecursion (λ y. pointwise nat_eq x y ≡ false) xs
 apart x [] h = tt
 apart x (y ∷ ys) h =
     let parts : (pointwise nat_eq y x ≡ false) × (list_any (λ z. pointwise nat_eq z x) ys ≡ false)
-    = or-false (pointwise nat_eq y x) (list_any (λ z. pointwise nat_eq z x) ys) h in
+    = or_parts (pointwise nat_eq y x) (list_any (λ z. pointwise nat_eq z x) ys) h in
     (nat_list_eq_equiv.symm x y ∙ parts.0, apart x ys parts.1)
 
 met : (x : List ℕ) (xs : List (List ℕ)) → AllByRecursion (λ y. pointwise nat_eq x y ≡ false) xs → list_any (λ y. pointwise nat_eq y x) xs ≡ false

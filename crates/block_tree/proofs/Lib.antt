@@ -2,6 +2,7 @@ pub mod Parts
 pub mod ViewLemmas
 pub mod Keeping
 pub mod TargetLemmas
+pub mod Courses
 pub mod Tracks
 pub mod Limits
 pub mod CutLemmas
@@ -12,7 +13,6 @@ pub mod RunSteps
 pub mod KeptLemmas
 pub mod TaskLemmas
 pub mod AlongLemmas
-pub mod StepRuns
 pub mod Refinement
 pub mod Tapes
 pub mod DistinctWords

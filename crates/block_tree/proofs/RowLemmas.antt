@@ -1,5 +1,5 @@
 -- Rows show eight elements of hashing, and words.
-use Rattle.std.proofs.Common.{◌≡◌, ℕ, ◌-◌, ◌<◌, ◌≤◌, Bool, true, false, cond, List, ◌++◌, length, replicate, sym, ap, ◌∙◌, arith, length-append, lit≤}
+use Rattle.std.proofs.Common.{◌≡◌, ℕ, ◌+◌, ◌-◌, ◌<◌, ◌≤◌, Bool, true, false, cond, List, [], ◌∷◌, ◌++◌, length, replicate, sym, ap, ◌∙◌, arith, length-append, lit≤}
 use Rattle.std.proofs.lemmas.List.{length-replicate}
 use Rattle.std.proofs.lemmas.List.Elements.{All-replicate}
 use Rattle.vm_field.specs.Field.{prime, AreElements}
@@ -8,7 +8,7 @@ use Rattle.vm_field.proofs.Elements.{elements-append, word-of, word-zero}
 use Rattle.vm_ops.specs.Codes.{accesses_memory}
 use Rattle.vm_ops.proofs.MoveLemmas.{advice_of-below}
 use Rattle.op_pack.specs.Reading.{IsBatch}
-use Rattle.block_tree.specs.Cycles.{Mark, StartOpaque, StartSpan, StartJoin, StartSplit, StartLoop, StartCall, StartSyscall, StartDyn, Respan, Repeat, Do, End, EndSpan, EndLoop, EndCall, EndSyscall, top, advice_taken}
+use Rattle.block_tree.specs.Cycles.{Mark, StartOpaque, StartSpan, StartJoin, StartSplit, StartDyn, Respan, Do, EndSpan, EndLoop, EndCall, EndSyscall, top, advice_taken}
 use Rattle.block_tree.specs.Marks.{IsWholeMark}
 use Rattle.block_tree.specs.RowLaws.{core_after}
 use Rattle.block_tree.specs.Rows.{op_of_mark, hash_of, accessed, behind, four_of}
@@ -21,23 +21,23 @@ two-words v w hv hw = record {
   below = elements-append v w hv.below hw.below;
 }
 
+-- what tells the ends apart
+flags : (a b c d : ℕ) → a + b + c + d ≤ 1 → IsWord (a ∷ b ∷ c ∷ d ∷ [])
+flags a b c d l = word-of a b c d (omega arith) (omega arith) (omega arith) (omega arith)
+
 pub hash-batch : (mark : Mark) → IsWholeMark mark → IsBatch (hash_of mark)
 hash-batch StartOpaque h = two-words _ _ word-zero word-zero
+hash-batch (StartDyn known) h = two-words _ _ word-zero word-zero
+hash-batch (Do item) h = two-words _ _ word-zero word-zero
 hash-batch (StartSpan batch) h = h
+hash-batch (Respan batch) h = h
 hash-batch (StartJoin first second) h = two-words _ _ h.0 h.1
 hash-batch (StartSplit on_one on_zero) h = two-words _ _ h.0 h.1
-hash-batch (StartLoop body) h = two-words _ _ h word-zero
-hash-batch (StartCall callee) h = two-words _ _ h word-zero
-hash-batch (StartSyscall callee) h = two-words _ _ h word-zero
-hash-batch (StartDyn known) h = two-words _ _ word-zero word-zero
-hash-batch (Respan batch) h = h
-hash-batch (Repeat body) h = two-words _ _ h word-zero
-hash-batch (Do item) h = two-words _ _ word-zero word-zero
-hash-batch (End digest) h = two-words _ _ h word-zero
-hash-batch (EndSpan digest) h = two-words _ _ h (word-of 0 1 0 0 (omega arith) (omega arith) (omega arith) (omega arith))
-hash-batch (EndLoop digest) h = two-words _ _ h (word-of 1 0 0 0 (omega arith) (omega arith) (omega arith) (omega arith))
-hash-batch (EndCall digest frame) h = two-words _ _ h.0 (word-of 0 0 1 0 (omega arith) (omega arith) (omega arith) (omega arith))
-hash-batch (EndSyscall digest frame) h = two-words _ _ h.0 (word-of 0 0 0 1 (omega arith) (omega arith) (omega arith) (omega arith))
+hash-batch (EndSpan digest) h = two-words _ _ h (flags 0 1 0 0 (lit≤ tt))
+hash-batch (EndLoop digest) h = two-words _ _ h (flags 1 0 0 0 (lit≤ tt))
+hash-batch (EndCall digest frame) h = two-words _ _ h.0 (flags 0 0 1 0 (lit≤ tt))
+hash-batch (EndSyscall digest frame) h = two-words _ _ h.0 (flags 0 0 0 1 (lit≤ tt))
+hash-batch _ h = two-words _ _ h word-zero
 
 pub four-word : (elements : List ℕ) → length elements ≤ 4 → AreElements elements → IsWord (four_of elements)
 four-word elements l h = record {

@@ -1,26 +1,18 @@
 -- The first target of a digest, and the run of a dynamic block by it.
-use Rattle.std.proofs.Common.{◌≡◌, ℕ, ◌≤◌, max, nat_eq, Bool, true, false, cond, List, Option, Some, None, is_some, refl, sym, ap, subst, arith}
+use Rattle.std.proofs.Common.{◌≡◌, ℕ, ◌≤◌, max, nat_eq, Bool, true, false, cond, List, Option, Some, None, is_some, refl, ap, subst, arith}
 use lib.Pointwise.{pointwise}
 use Rattle.vm_field.specs.Machine.{State}
 use Rattle.block_tree.specs.Trees.{Tree, Targets, Dyn, no_target, target, IsWhole, AreWhole, first_target, targets_height, tree_digest, tree_height}
 use Rattle.block_tree.specs.Cycles.{StartDyn, End, called_word}
 use Rattle.block_tree.specs.Execution.{Part, cycle, execution, run_first, seq, skip}
 
-abbrev IsSome : Option Tree → Type 0
-IsSome (Some tree) = Unit {0}
-IsSome None = ⊥
-
-abbrev tree_or : Tree → Option Tree → Tree
-tree_or d (Some tree) = tree
-tree_or d None = d
-
 pub none-found : (tree : Tree) → None ≡ Some tree → ⊥
-none-found tree e = subst IsSome (sym e) tt
+none-found tree e = cc
 
 -- what holds of a target and of what is found behind it holds of what is found
 pub on-first : (P : Tree → Type 0) (b : Bool) (t : Tree) (o : Option Tree) → P t → ((u : Tree) → o ≡ Some u → P u)
     → (u : Tree) → cond b (Some t) o ≡ Some u → P u
-on-first P true t o p f u e = subst P (ap (tree_or t) e) p
+on-first P true t o p f u e = let same : t ≡ u = cc in subst P same p
 on-first P false t o p f u e = f u e
 
 pub first-whole : (constants : List ℕ) (ts : Targets) (digest : List ℕ) (t : Tree) → AreWhole ts → first_target constants digest ts ≡ Some t → IsWhole t

@@ -29,11 +29,6 @@ same_if v w e = (bytes_decides v w).0 (other (pointwise nat_eq v w) e)
     other true e = refl
     other false e = cc
 
--- what stands behind a list is named by its place and one
-pub named-last : (none : List ℕ) (xs : List (List ℕ)) (x : List ℕ) → named none (xs ++ x ∷ []) (suc (length xs)) ≡ x
-named-last none [] x = refl
-named-last none (y ∷ ys) x = named-last none ys x
-
 event-more : (fs us f u : List (List ℕ)) (k : Kept) → HasNames fs us k → event_of (fs ++ f) (us ++ u) k ≡ event_of fs us k
 event-more fs us f u k h = rw (named-more zero_word fs f k.function h.function, named-more zeros us u k.elements h.elements) refl
 

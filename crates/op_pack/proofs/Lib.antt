@@ -3,7 +3,6 @@ pub mod PackLemmas
 pub mod PlaceLemmas
 pub mod NoopLemmas
 pub mod RoundTripLemmas
-pub mod CutLemmas
 pub mod BatchLemmas
 pub mod OrdinaryLemmas
 pub mod PackedLemmas

@@ -26,24 +26,19 @@ without_noops-next item read rest items e = go (is_noop item) refl
     go true h = rw (skipped item read h, skipped item items h) e
     go false h = rw (kept item read h, kept item items h) (ap (λ later. item ∷ later) e)
 
-pub reads-along : (o q : Option (List Item)) (rest items : List Item) → o ≡ q → ReadsItems q rest items → ReadsItems o rest items
-reads-along o q rest items e h = rw e h
+module _ {o : Option (List Item)} {rest items : List Item} where
+  pub reads-along : {q : Option (List Item)} → o ≡ q → ReadsItems q rest items → ReadsItems o rest items
+  reads-along e h = rw e h
 
-pub reads-before : (item : Item) (o : Option (List Item)) (rest items : List Item) → ReadsItems o rest items
-    → ReadsItems (before item o) rest (item ∷ items)
-reads-before item o rest items h = record {
-  read = item ∷ h.read;
-  is = ap (λ q. before item q) h.is;
-  same = without_noops-next item h.read rest items h.same;
-}
+  pub reads-before : (item : Item) → ReadsItems o rest items → ReadsItems (before item o) rest (item ∷ items)
+  reads-before item h = record {
+    read = item ∷ h.read;
+    is = ap (λ q. before item q) h.is;
+    same = without_noops-next item h.read rest items h.same;
+  }
 
-pub reads-noop : (o : Option (List Item)) (rest items : List Item) → ReadsItems o rest items → ReadsItems (before (plain_item Noop) o) rest items
-reads-noop o rest items h = record {
-  read = plain_item Noop ∷ h.read;
-  is = ap (λ q. before (plain_item Noop) q) h.is;
-  same = h.same;
-}
+  pub reads-noop : ReadsItems o rest items → ReadsItems (before (plain_item Noop) o) rest items
+  reads-noop h = record { read = plain_item Noop ∷ h.read; is = ap (λ q. before (plain_item Noop) q) h.is; same = h.same }
 
-pub reads-skip : (item : Item) (o : Option (List Item)) (rest items : List Item) → is_noop item ≡ true → ReadsItems o rest items
-    → ReadsItems o rest (item ∷ items)
-reads-skip item o rest items e h = record { read = h.read; is = h.is; same = rw (skipped item items e) h.same }
+  pub reads-skip : (item : Item) → is_noop item ≡ true → ReadsItems o rest items → ReadsItems o rest (item ∷ items)
+  reads-skip item e h = record { read = h.read; is = h.is; same = rw (skipped item items e) h.same }

@@ -1,9 +1,11 @@
 -- A reading holds ordinary items, where the batch is made of elements.
-use Rattle.std.proofs.Common.{◌≡◌, ℕ, zero, suc, ◌/◌, ◌%◌, ◌<◌, ◌==◌, Bool, true, false, cond, nat_lt, List, [], ◌∷◌, take, drop, slice_index, Option, Some, None, refl, ap, ◌∙◌, arith, unwrap_or, lit<}
-use Rattle.std.proofs.lemmas.Bool.{ltb-true, lt-ltb}
+use Rattle.std.proofs.Common.{◌≡◌, ◌⊎◌, inl, inr, ℕ, zero, suc, ◌/◌, ◌%◌, ◌<◌, ◌==◌, Bool, true, false, cond, List, [], ◌∷◌, take, drop, slice_index, Option, Some, None, refl, ap, ◌∙◌, arith, unwrap_or, lit<}
+use Rattle.std.proofs.lemmas.Bool.{lt-ltb}
 use Rattle.std.proofs.lemmas.List.Elements.{All-cons, All-head, All-nil, All-tail}
 use Rattle.std.specs.List.{All}
-use Rattle.op_pack.specs.Reading.{IsBatch, positions_in_use, push_code, plain_digit, before, read_last, read_more, read_on, reading}
+use Rattle.op_pack.proofs.ReadLemmas.{read_on-full, read_on-plain, read_on-push, read_on-above}
+use Rattle.op_pack.specs.Digits.{next_group, pushed_on}
+use Rattle.op_pack.specs.Reading.{IsBatch, positions_in_use, plain_digit, before, read_on, reading}
 use Rattle.vm_field.proofs.Elements.{elements-drop, elements-take}
 use Rattle.vm_field.specs.Field.{prime, AreElements}
 use Rattle.vm_ops.proofs.CodeLemmas.{code_of-op_at, ordinary-below}
@@ -44,42 +46,31 @@ ordinary-before item None h later items e = cc
 ordinary-before item (Some rest) h later items e =
     let whole : item ∷ rest ≡ items = cc in rw (← whole) (All-cons IsOrdinaryItem item rest h (later rest refl))
 
-ordinary-cond : (b : Bool) (o p : Option (List Item)) → (b ≡ true → AreOrdinary o) → (b ≡ false → AreOrdinary p) → AreOrdinary (cond b o p)
-ordinary-cond true o p h k = h refl
-ordinary-cond false o p h k = k refl
+ordinary-cond : (b : Bool) (o p : Option (List Item)) → AreOrdinary o → AreOrdinary p → AreOrdinary (cond b o p)
+ordinary-cond true o p h k = h
+ordinary-cond false o p h k = k
 
-ordinary-digit : (digit : ℕ) (o : Option (List Item)) → nat_lt digit push_code ≡ true → AreOrdinary o → AreOrdinary (before (plain_digit digit) o)
-ordinary-digit digit o e later = ordinary-before (plain_digit digit) o (plain_digit-ordinary digit (ltb-true digit push_code e)) later
-
-ordinary-last : (room number : ℕ) → AreOrdinary (read_last room number)
-ordinary-last zero number = ordinary-none
-ordinary-last (suc room) number =
-    let rest : Option (List Item) = cond (number / 128 == 0) (Some []) (read_last room (number / 128)) in
-    ordinary-cond (nat_lt (number % 128) push_code) (before (plain_digit (number % 128)) rest) None
-    (λ e. ordinary-digit (number % 128) rest e
-    (ordinary-cond (number / 128 == 0) (Some []) (read_last room (number / 128)) (λ _. ordinary-nil) (λ _. ordinary-last room (number / 128))))
-    (λ _. ordinary-none)
-
-ordinary-more : (position : ℕ) (later : ℕ → ℕ → Option (List Item)) → position < prime → ((room number : ℕ) → AreOrdinary (later room number))
-    → (room number : ℕ) → AreOrdinary (read_more position later room number)
-ordinary-more position later below behind zero number = ordinary-none
-ordinary-more position later below behind (suc room) number =
-    let rest : Option (List Item) = cond (number / 128 == 0) (later 9 position) (read_more position later room (number / 128)) in
-    let pushed : Option (List Item) = before (push_item position) (later room (number / 128)) in
-    ordinary-cond (nat_lt (number % 128) push_code) (before (plain_digit (number % 128)) rest) (cond (number % 128 == push_code) pushed None)
-    (λ e. ordinary-digit (number % 128) rest e
-    (ordinary-cond (number / 128 == 0) (later 9 position) (read_more position later room (number / 128)) (λ _. behind 9 position)
-    (λ _. ordinary-more position later below behind room (number / 128))))
-    (λ _. ordinary-cond (number % 128 == push_code) pushed None
-    (λ _. ordinary-before (push_item position) (later room (number / 128)) (push_item-ordinary position below) (behind room (number / 128)))
-    (λ _. ordinary-none))
+-- by what follows an operation, and a PUSH
+ordinary-room : (positions : List ℕ) → AreOrdinary (next_group positions) → ((room number : ℕ) → AreOrdinary (pushed_on positions room number))
+    → (room number : ℕ) → AreOrdinary (read_on positions room number)
+ordinary-room positions group pushed zero number = rw read_on-full ordinary-none
+ordinary-room positions group pushed (suc room) number = elim (compared (number % 128) 69) [
+  | inl low ↦
+      rw (read_on-plain positions room number low) (ordinary-before _ _ (plain_digit-ordinary _ low)
+      (ordinary-cond (number / 128 == 0) _ _ group (ordinary-room positions group pushed room (number / 128))))
+  | inr (inl push) ↦ rw (read_on-push positions room number push) (pushed room (number / 128))
+  | inr (inr high) ↦ rw (read_on-above positions room number high) ordinary-none
+]
+  where
+    compared : (a b : ℕ) → (a < b) ⊎ ((a ≡ b) ⊎ (b < a))
+    compared a b = grind arith
 
 ordinary-read_on : (positions : List ℕ) → AreElements positions → (room number : ℕ) → AreOrdinary (read_on positions room number)
-unfolding read_on
-ordinary-read_on [] below room number = ordinary-last room number
-ordinary-read_on (position ∷ later) below room number =
-    ordinary-more position (read_on later) (All-head (λ e. e < prime) position later below)
-    (ordinary-read_on later (All-tail (λ e. e < prime) position later below)) room number
+ordinary-read_on [] below = ordinary-room [] ordinary-nil (λ room number. ordinary-none)
+ordinary-read_on (position ∷ later) below =
+    let behind = ordinary-read_on later (All-tail (λ e. e < prime) position later below) in
+    ordinary-room (position ∷ later) (behind 9 position) (λ room number.
+    ordinary-before (push_item position) _ (push_item-ordinary position (All-head (λ e. e < prime) position later below)) (behind room number))
 
 pub ordinary_reading : (batch : List ℕ) (items : List Item) → IsBatch batch → reading batch ≡ Some items → All IsOrdinaryItem items
 unfolding reading

@@ -1,22 +1,45 @@
 -- Each batch holds one operation at least, so that the batches of a list are its first one and those of the rest.
 use Rattle.std.proofs.Common.{◌≡◌, ◌≢◌, ℕ, zero, suc, ◌-◌, ◌<◌, ◌≤◌, Bool, true, false, cond, ◌&&◌, List, [], ◌∷◌, ◌++◌, length, refl, ap, sym, ◌∙◌, append_assoc, arith, nat_lt, ◌==◌}
-use Rattle.std.proofs.lemmas.Bool.{eqb-true}
+use Rattle.std.proofs.lemmas.Bool.{and_parts, eqb-true, ltb-true}
 use Rattle.op_pack.specs.Packing.{Placed, has_immediate, positions_of, fits, opens, put, new_group, full, placed, batch_of, first_placed, batches_within, packed}
 use Rattle.vm_ops.specs.declared.item.Item.{Item}
 
-length-cond_rest : (b : Bool) (p q : Placed) (n : ℕ) → length p.rest ≤ n → length q.rest ≤ n → length (cond b p q).rest ≤ n
-length-cond_rest true p q n h k = h
-length-cond_rest false p q n h k = k
+-- What holds of a full batch, and of an operation in the current group or in a new one where it holds behind it, holds of
+-- what is placed.
+pub placed-along : (P : ℕ → ℕ → List Item → Placed → Type 0)
+    → ((room free : ℕ) (items : List Item) → P room free items (full items))
+    → ((room free : ℕ) (item : Item) (items : List Item) (p : Placed) → fits room free item ≡ true → P (room - 1) (free - positions_of item) items p
+    → P room free (item ∷ items) (put item p))
+    → ((room free : ℕ) (item : Item) (items : List Item) (p : Placed) → opens free item ≡ true → P 8 (free - 1 - positions_of item) items p
+    → P room free (item ∷ items) (new_group (put item p)))
+    → (items : List Item) (room free : ℕ) → P room free items (placed room free items)
+placed-along P ends fitted opened [] room free = ends room free []
+placed-along P ends fitted opened (item ∷ items) room free = go (fits room free item) (opens free item) refl refl (placed-along P ends fitted opened items)
+  where
+    go : (b c : Bool) → fits room free item ≡ b → opens free item ≡ c → ((r f : ℕ) → P r f items (placed r f items))
+        → P room free (item ∷ items) (cond b (put item (placed (room - 1) (free - positions_of item) items))
+        (cond c (new_group (put item (placed 8 (free - 1 - positions_of item) items))) (full (item ∷ items))))
+    go true c e f later = fitted room free item items _ e (later (room - 1) (free - positions_of item))
+    go false true e f later = opened room free item items _ f (later 8 (free - 1 - positions_of item))
+    go false false e f later = ends room free (item ∷ items)
+
+-- an operation that fits takes room and positions, and a PUSH leaves room behind it
+pub fits-inv : (room free : ℕ) (item : Item) → fits room free item ≡ true
+    → (0 < room) × (positions_of item ≤ free) × (has_immediate item ≡ true → 0 < room - 1)
+fits-inv room free item e = go (has_immediate item) e
+  where
+    go : (has : Bool) → cond has (nat_lt 1 room && nat_lt 0 free) (nat_lt 0 room) ≡ true
+        → (0 < room) × (cond has 1 0 ≤ free) × (has ≡ true → 0 < room - 1)
+    go true e =
+        let h = and_parts (nat_lt 1 room) (nat_lt 0 free) e in
+        let above : 1 < room = ltb-true 1 room h.0 in
+        let some : 0 < free = ltb-true 0 free h.1 in
+        (omega arith, omega arith, λ has. omega arith)
+    go false e = (ltb-true 0 room e, omega arith, λ has. cc)
 
 length-placed_rest : (items : List Item) (room free : ℕ) → length (placed room free items).rest ≤ length items
-length-placed_rest [] room free = omega arith
-length-placed_rest (item ∷ items) room free =
-    let here = length-placed_rest items (room - 1) (free - positions_of item) in
-    let there = length-placed_rest items 8 (free - 1 - positions_of item) in
-    let n : ℕ = length (item ∷ items) in
-    length-cond_rest (fits room free item) (put item (placed (room - 1) (free - positions_of item) items)) _ n (omega arith)
-    (length-cond_rest (opens free item) (new_group (put item (placed 8 (free - 1 - positions_of item) items))) (full (item ∷ items)) n
-    (omega arith) (omega arith))
+length-placed_rest = placed-along (λ room free items p. length p.rest ≤ length items) (λ room free items. omega arith)
+    (λ room free item items p e h. omega arith) (λ room free item items p e h. omega arith)
 
 pub fits-first : (b : Bool) → cond b (nat_lt 1 9 && nat_lt 0 7) (nat_lt 0 9) ≡ true
 fits-first true = refl
@@ -35,16 +58,16 @@ first_rest-shorter (item ∷ items) some =
     rw e (omega arith)
 
 within-enough : (n m : ℕ) (items : List Item) → length items ≤ n → length items ≤ m → batches_within n items ≡ batches_within m items
-within-enough zero zero items h k = refl
-within-enough zero (suc m) [] h k = refl
-within-enough zero (suc m) (item ∷ items) h k = absurd (omega arith)
-within-enough (suc n) zero [] h k = refl
-within-enough (suc n) zero (item ∷ items) h k = absurd (omega arith)
-within-enough (suc n) (suc m) [] h k = refl
 within-enough (suc n) (suc m) (item ∷ items) h k =
     let shorter = first_rest-shorter (item ∷ items) (λ e. cc) in
     ap (λ later. batch_of (first_placed (item ∷ items)) ∷ later)
     (within-enough n m (first_placed (item ∷ items)).rest (omega arith) (omega arith))
+within-enough zero m (item ∷ items) h k = absurd (omega arith)
+within-enough (suc n) zero (item ∷ items) h k = absurd (omega arith)
+within-enough zero zero [] h k = refl
+within-enough zero (suc m) [] h k = refl
+within-enough (suc n) zero [] h k = refl
+within-enough (suc n) (suc m) [] h k = refl
 
 pub packed-next : (items : List Item) → items ≢ [] → packed items ≡ batch_of (first_placed items) ∷ packed (first_placed items).rest
 unfolding packed

@@ -1,14 +1,14 @@
 -- Packed operations are batches: eight elements each, and at least one.
-use Rattle.std.proofs.Common.{◌≡◌, ◌≢◌, ℕ, zero, suc, ◌-◌, ◌^◌, ◌<◌, ◌≤◌, Bool, true, false, cond, List, [], ◌∷◌, length, replicate, unwrap_or, refl, arith, lit<}
+use Rattle.std.proofs.Common.{◌≡◌, ◌≢◌, ℕ, zero, suc, ◌-◌, ◌^◌, ◌<◌, ◌≤◌, Bool, true, false, cond, List, [], ◌∷◌, length, replicate, unwrap_or, arith, lit<}
 use Rattle.std.proofs.Math.Nat.{one-le-pow}
 use Rattle.std.proofs.lemmas.List.{length-append, length-replicate}
 use Rattle.std.proofs.lemmas.List.Elements.{All-cons, All-nil}
 use Rattle.std.specs.List.{All}
 use Rattle.op_pack.proofs.BatchLemmas.{each-all, each-first, length-placed}
-use Rattle.op_pack.proofs.PackLemmas.{packed-next}
-use Rattle.op_pack.proofs.PlaceLemmas.{below_next, room-fits}
+use Rattle.op_pack.proofs.PackLemmas.{fits-inv, packed-next, placed-along}
+use Rattle.op_pack.proofs.PlaceLemmas.{below_next}
 use Rattle.op_pack.proofs.RoundTripLemmas.{Each}
-use Rattle.op_pack.specs.Packing.{IsPackable, Placed, has_immediate, positions_of, with_immediate, fits, opens, put, new_group, full, placed, first_placed, zeros_behind, batch_of, batches_within, packed}
+use Rattle.op_pack.specs.Packing.{IsPackable, Placed, has_immediate, with_immediate, put, new_group, placed, first_placed, zeros_behind, batch_of, batches_within, packed}
 use Rattle.op_pack.specs.Reading.{IsBatch}
 use Rattle.vm_field.specs.Field.{prime, AreElements}
 use Rattle.vm_field.proofs.Elements.{elements-append, elements-cons, elements-none, elements-replicate}
@@ -22,9 +22,6 @@ use Rattle.vm_ops.specs.Items.{IsPackableItem}
 record IsSmall (room : ℕ) (p : Placed) : Type 0 where
   number : p.number < 128 ^ room
   positions : AreElements p.positions
-
-small-along : (room : ℕ) (p q : Placed) → p ≡ q → IsSmall room q → IsSmall room p
-small-along room p q e h = rw e h
 
 elements-with_immediate : (item : Item) (positions : List ℕ) → IsPackableItem item → AreElements positions
     → AreElements (with_immediate item positions)
@@ -49,24 +46,11 @@ small-group room p small = record {
   positions = elements-cons p.number p.positions (group-below p.number small.number) small.positions;
 }
 
-small-full : (room : ℕ) (items : List Item) → IsSmall room (full items)
-small-full room items = record { number = one-le-pow room 128 (lit< tt); positions = elements-none }
-
-small-next : (b c : Bool) (item : Item) (items : List Item) (room free : ℕ) → IsPackableItem item
-    → ((r f : ℕ) → IsSmall r (placed r f items)) → fits room free item ≡ b → opens free item ≡ c
-    → IsSmall room (placed room free (item ∷ items))
-small-next true c item items room free h later e f =
-    small-along room _ (put item (placed (room - 1) (free - positions_of item) items)) (rw e refl)
-    (small-put room item _ (room-fits room free item e) h (later (room - 1) (free - positions_of item)))
-small-next false true item items room free h later e f =
-    small-along room _ (new_group (put item (placed 8 (free - 1 - positions_of item) items))) (rw (e, f) refl)
-    (small-group room _ (small-put 9 item _ (lit< tt) h (later 8 (free - 1 - positions_of item))))
-small-next false false item items room free h later e f = small-along room _ (full (item ∷ items)) (rw (e, f) refl) (small-full room (item ∷ items))
-
 small-placed : (items : List Item) (room free : ℕ) → Each items → IsSmall room (placed room free items)
-small-placed [] room free each = small-full room []
-small-placed (item ∷ items) room free each =
-    small-next (fits room free item) (opens free item) item items room free each.0 (λ r f. small-placed items r f each.1) refl refl
+small-placed items room free = placed-along (λ room free items p. Each items → IsSmall room p)
+    (λ room free items each. record { number = one-le-pow room 128 (lit< tt); positions = elements-none })
+    (λ room free item items p e h each. small-put room item p (fits-inv room free item e).0 each.0 (h each.1))
+    (λ room free item items p e h each. small-group room _ (small-put 9 item p (lit< tt) each.0 (h each.1))) items room free
 
 batch_of-IsBatch : (p : Placed) → length p.positions ≤ 7 → IsSmall 9 p → IsBatch (batch_of p)
 batch_of-IsBatch p few small = record {

@@ -1,5 +1,5 @@
 -- Placing into the slice of the free positions: a new group and what stands behind it, and the bounds of a group's number.
-use Rattle.std.proofs.Common.{◌≡◌, ℕ, zero, suc, ◌+◌, ◌-◌, ◌*◌, ◌^◌, ◌<◌, ◌≤◌, Bool, true, false, cond, ◌&&◌, List, [], ◌∷◌, ◌++◌, length, replicate, slice_set, refl, ap, ap₂, sym, ◌∙◌, arith, nat_lt, if◌then◌else◌, lit<, append-nil}
+use Rattle.std.proofs.Common.{◌≡◌, ℕ, zero, suc, ◌+◌, ◌-◌, ◌*◌, ◌^◌, ◌<◌, ◌≤◌, Bool, true, false, ◌&&◌, List, [], ◌∷◌, ◌++◌, length, replicate, slice_set, refl, ap, ap₂, ◌∙◌, arith, nat_lt, if◌then◌else◌, lit<, append-nil}
 use Rattle.std.proofs.lemmas.Bool.{ltb-true, lt-ltb}
 use Rattle.std.proofs.Math.ListN.{drop_of_length-le}
 use Rattle.std.proofs.Math.Nat.{pow-succ', pow-le-pow_right}
@@ -7,18 +7,6 @@ use borrow.Rule.Slice.PartMut.{put_mid}
 use Rattle.op_pack.proofs.PackLemmas.{placed-fits}
 use Rattle.op_pack.specs.Packing.{Placed, has_immediate, positions_of, fits, opens, new_group, placed, zeros_behind}
 use Rattle.vm_ops.specs.declared.item.Item.{Item}
-
-room_if : (b : Bool) (room free : ℕ) → cond b (nat_lt 1 room && nat_lt 0 free) (nat_lt 0 room) ≡ true → 0 < room
-room_if true room free e = some (nat_lt 1 room) refl e
-  where
-    some : (more : Bool) → nat_lt 1 room ≡ more → more && nat_lt 0 free ≡ true → 0 < room
-    some true h k = let above : 1 < room = ltb-true 1 room h in omega arith
-    some false h k = cc
-room_if false room free e = ltb-true 0 room e
-
--- an operation that fits takes room
-pub room-fits : (room free : ℕ) (item : Item) → fits room free item ≡ true → 0 < room
-room-fits room free item e = room_if (has_immediate item) room free e
 
 -- a digit in front of a number
 pub below_next : (room code number : ℕ) → 0 < room → code < 81 → number < 128 ^ (room - 1) → code + 128 * number < 128 ^ room
@@ -28,9 +16,11 @@ below_next (suc room) code number some h k =
     let small : number < 128 ^ room = rw same at k in
     rw pow-succ' (omega arith)
 
-pub below_nine : (room number : ℕ) → room ≤ 9 → number < 128 ^ room → number < 2 ^ 63
-below_nine room number h k =
-    let most : 128 ^ room ≤ 128 ^ 9 = pow-le-pow_right (lit< tt) h in omega arith
+pub word_next : (room code number : ℕ) → 0 < room → room ≤ 9 → code < 81 → number < 128 ^ (room - 1) → code + 128 * number < 2 ^ 63
+word_next room code number some l h k =
+    let small = below_next room code number some h k in
+    let most : 128 ^ room ≤ 128 ^ 9 = pow-le-pow_right (lit< tt) l in
+    omega arith
 
 put_tail : (x : ℕ) (xs ys : List ℕ) → put_mid 1 (length xs) (x ∷ xs) ys ≡ x ∷ ys
 put_tail x xs ys = ap (λ behind. x ∷ (ys ++ behind)) (drop_of_length-le xs (omega arith)) ∙ ap (λ zs. x ∷ zs) (append-nil ys)
@@ -64,12 +54,6 @@ pub opened : (room : ℕ) (positions new : List ℕ) (all : List Item) (item : I
     → slice_set (put_mid 1 (length positions - 1) positions new) 0 number
     ≡ zeros_behind (length positions) (placed room (length positions) all).positions
 opened room positions new all item items free number is e f g h k =
-    let p : Placed = placed 9 (length positions - 1) (item ∷ items) in
-    let some : 0 < length positions =
-    (let above : positions_of item < length positions = ltb-true (positions_of item) (length positions) f in omega arith) in
-    let same : placed 9 free all ≡ p = ap₂ (λ (m : ℕ) (xs : List Item). placed 9 m xs) g is in
-    let first : number ≡ p.number = h ∙ ap (λ (q : Placed). q.number) same in
-    let later : new ≡ zeros_behind (length positions - 1) p.positions = k ∙ ap₂ (λ (m : ℕ) (q : Placed). zeros_behind m q.positions) g same in
-    let whole : placed room (length positions) all ≡ new_group p =
-    ap (λ (xs : List Item). placed room (length positions) xs) is ∙ placed-opens room (length positions) item items e f in
-    opened_list positions new p number some first later ∙ ap (λ (q : Placed). zeros_behind (length positions) q.positions) (sym whole)
+    let above : positions_of item < length positions = ltb-true (positions_of item) (length positions) f in
+    rw (is, placed-opens room (length positions) item items e f)
+    (opened_list positions new (placed 9 (length positions - 1) (item ∷ items)) number (omega arith) (rw (is, g) at h) (rw (is, g) at k))

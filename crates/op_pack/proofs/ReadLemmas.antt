@@ -1,8 +1,7 @@
 -- One digit of a reading.
 use Rattle.std.proofs.Common.{◌≡◌, ℕ, suc, ◌/◌, ◌%◌, ◌<◌, List, [], ◌∷◌, Option, Some, None, refl, ap, sym, ◌∙◌, arith, ◌-◌, ◌≢◌, ◌++◌, append_assoc}
 use Rattle.std.proofs.lemmas.Bool.{lt-ltb, le-ltb, eq-eqb, ne_eqb, cond-true, cond-false}
-use Rattle.op_pack.specs.declared.reading.Next.{Next}
-use Rattle.op_pack.specs.Digits.{IsNext, after_items, go_on, pushed_on}
+use Rattle.op_pack.specs.Digits.{after_items, go_on, pushed_on}
 use Rattle.op_pack.specs.Reading.{read_on, before, plain_digit}
 use Rattle.vm_ops.specs.declared.item.Item.{Item}
 
@@ -30,25 +29,9 @@ read_on-above [] room number h = cond-false _ _ _ (le-ltb (number % 128) 69 (ome
 read_on-above (position ∷ later) room number h =
     cond-false _ _ _ (le-ltb (number % 128) 69 (omega arith)) ∙ cond-false _ _ _ (ne_eqb (number % 128) 69 (λ e. omega arith))
 
-pub IsNext-along : (q r : Option (List Item)) (m n : ℕ) (next : Next) → q ≡ r → n ≡ m → IsNext r m next → IsNext q n next
-IsNext-along q r m n next e f h = rw (e, f) h
-
-one_below : (room : ℕ) → room ≢ 0 → suc (room - 1) ≡ room
-one_below room h = omega arith
-
-pub left_of-plain : (positions : List ℕ) (room number : ℕ) → room ≢ 0 → number % 128 < 69
-    → read_on positions room number ≡ before (plain_digit (number % 128)) (go_on positions (room - 1) (number / 128))
-left_of-plain positions room number some h =
-    ap (λ m. read_on positions m number) (sym (one_below room some)) ∙ read_on-plain positions (room - 1) number h
-
-pub left_of-push : (positions : List ℕ) (room number : ℕ) → room ≢ 0 → number % 128 ≡ 69
-    → read_on positions room number ≡ pushed_on positions (room - 1) (number / 128)
-left_of-push positions room number some h =
-    ap (λ m. read_on positions m number) (sym (one_below room some)) ∙ read_on-push positions (room - 1) number h
-
-pub left_of-above : (positions : List ℕ) (room number : ℕ) → room ≢ 0 → 69 < number % 128 → read_on positions room number ≡ None
-left_of-above positions room number some h =
-    ap (λ m. read_on positions m number) (sym (one_below room some)) ∙ read_on-above positions (room - 1) number h
+-- a reading with room has room for one operation and the rest
+pub room-is : (positions : List ℕ) (room number : ℕ) → room ≢ 0 → read_on positions room number ≡ read_on positions (suc (room - 1)) number
+room-is positions room number some = let one : room ≡ suc (room - 1) = omega arith in ap (λ m. read_on positions m number) one
 
 pub after_items-before : (items : List Item) (item : Item) (rest : Option (List Item))
     → after_items items (before item rest) ≡ after_items (items ++ item ∷ []) rest

@@ -6,7 +6,7 @@ use Rattle.vm_field.specs.Machine.{start}
 use Rattle.rpo_hash.specs.Constants.{constants_of}
 use Rattle.rpo_hash.specs.declared.params.Params.{Params}
 use Rattle.block_tree.specs.Execution as run
-use Rattle.block_tree.specs.Execution.{Done, IsCutOff, Outcome, cut_off}
+use Rattle.block_tree.specs.Execution.{Done, IsCutOff, cut_off}
 use Rattle.block_tree.specs.Laws.{tape_taken}
 use Rattle.block_tree.specs.Trees.{Tree, tree_digest}
 use Rattle.block_tree.specs.TreeView.{tree_of}

@@ -1,6 +1,7 @@
-use Rattle.std.proofs.Common.{◌≡◌, ◌+◌, ◌*◌, ◌<◌, ◌^◌, ◌-◌, ℕ, ◌∙◌, arith, length, true, false, ◌∷◌, take, drop, rules}
+use Rattle.std.proofs.Common.{◌≡◌, ◌<◌, ◌^◌, ◌-◌, ℕ, ◌∙◌, arith, length, true, false, ◌∷◌, take, drop, rules}
 use Rattle.std.proofs.lemmas.List.{length-take, length-drop}
-use Rattle.op_pack.proofs.PlaceLemmas.{room-fits, below_next, below_nine, opened}
+use Rattle.op_pack.proofs.PackLemmas.{fits-inv}
+use Rattle.op_pack.proofs.PlaceLemmas.{below_next, word_next, opened}
 use Rattle.op_pack.specs.Packing.{fits, opens}
 use Rattle.op_pack.proofs.packing.+placing.Goals as goal
 use Rattle.op_pack.proofs.packing.+placing.Goals.{put-then-has_immediate, put-else-has_immediate}
@@ -24,39 +25,35 @@ place-returns-clause-positions t c =
 
 pub put-overflow_mul-result : goal.put-overflow_mul-result
 put-overflow_mul-result t c =
-    let some = room-fits c.args.room _ c.args.item.now c.requires.fits in
+    let some = (fits-inv c.args.room _ c.args.item.now c.requires.fits).0 in
     let small : c.if-has_immediate.behind.number < 128 ^ (c.args.room - 1) =
     elim c.if-has_immediate.branch [
       | put-then-has_immediate w ↦ rw w.behind-is w.place-behind.ensures.below
       | put-else-has_immediate
           w ↦ rw w.behind-is w.place-behind-else-has_immediate.ensures.below
     ] in
-    let next = below_next c.args.room 0 c.if-has_immediate.behind.number some (omega arith) small in
-    let word = below_nine c.args.room (0 + 128 * c.if-has_immediate.behind.number) c.requires.room next in
+    let word = word_next c.args.room 0 c.if-has_immediate.behind.number some c.requires.room (omega arith) small in
     omega arith
 
 pub put-overflow_add-result : goal.put-overflow_add-result
 put-overflow_add-result t c =
-    let some = room-fits c.args.room _ c.args.item.now c.requires.fits in
+    let some = (fits-inv c.args.room _ c.args.item.now c.requires.fits).0 in
     let small : c.if-has_immediate.behind.number < 128 ^ (c.args.room - 1) =
     elim c.if-has_immediate.branch [
       | put-then-has_immediate w ↦ rw w.behind-is w.place-behind.ensures.below
       | put-else-has_immediate
           w ↦ rw w.behind-is w.place-behind-else-has_immediate.ensures.below
     ] in
-    let code : c.from.result < 81 = omega arith in
-    let next = below_next c.args.room c.from.result c.if-has_immediate.behind.number some code small in
-    let word = below_nine c.args.room (c.from.result + 128 * c.if-has_immediate.behind.number) c.requires.room next in
+    let word = word_next c.args.room c.from.result c.if-has_immediate.behind.number some c.requires.room (omega arith) small in
     omega arith
 
 pub put-returns-clause-below : goal.put-returns-clause-below
 put-returns-clause-below t c =
-    let some = room-fits c.args.room _ c.args.item.now c.requires.fits in
+    let some = (fits-inv c.args.room _ c.args.item.now c.requires.fits).0 in
     let small : c.if-has_immediate.behind.number < 128 ^ (c.args.room - 1) =
     elim c.if-has_immediate.branch [
       | put-then-has_immediate w ↦ rw w.behind-is w.place-behind.ensures.below
       | put-else-has_immediate
           w ↦ rw w.behind-is w.place-behind-else-has_immediate.ensures.below
     ] in
-    let code : c.from.result < 81 = omega arith in
-    below_next c.args.room c.from.result c.if-has_immediate.behind.number some code small
+    below_next c.args.room c.from.result c.if-has_immediate.behind.number some (omega arith) small

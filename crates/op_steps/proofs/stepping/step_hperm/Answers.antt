@@ -1,4 +1,4 @@
-use Rattle.std.proofs.Common.{◌≡◌, ◌∙◌, ap, reverse, take}
+use Rattle.std.proofs.Common.{◌∙◌, ap, reverse, take}
 use Rattle.vm_field.specs.Permutation.{permuted}
 use Rattle.vm_state.specs.Views.{state_of}
 use Rattle.op_steps.proofs.Steps.{hperm_quietly}
