@@ -10,7 +10,7 @@ use Rattle.air_blocks.specs.Entries.{spot_with}
 use Rattle.air_blocks.proofs.FaultLemmas.{joined, opcode_length, boundary_length, block_length, block_number}
 
 -- how many values the first list of spans has
-batch_length : (p : Spot) → length (batch_values p) ≡ 15
+pub batch_length : (p : Spot) → length (batch_values p) ≡ 15
 unfolding batch_values family
 batch_length p = refl
 

@@ -1,7 +1,8 @@
 -- A row of a span whose tests pass has no fault: most entries are 0 because of its operation alone.
-use Rattle.std.proofs.Common.{◌≡◌, ◌≢◌, ℕ, zero, suc, ◌+◌, ◌*◌, ◌<◌, ◌≤◌, true, false, cond, eqb, List, ◌++◌, length, Option, Some, None, refl, sym, ap, subst, ◌∙◌, inl, inr, arith, zero-mul}
+use Rattle.std.proofs.Common.{◌≡◌, ◌≢◌, ℕ, zero, suc, ◌+◌, ◌*◌, ◌<◌, ◌≤◌, Bool, true, false, ◌&&◌, ◌||◌, not, cond, eqb, nat_lt, List, [], ◌∷◌, ◌++◌, Option, Some, None, refl, sym, ap, subst, ◌∙◌, arith, zero-mul}
 use Rattle.std.proofs.Math.Nat.{mul-zero}
-use Rattle.std.proofs.lemmas.Bool.{cases_Bool, eqb-true, lt-ltb}
+use Rattle.std.proofs.lemmas.Bool.{and_parts, lt-ltb}
+use Rattle.std.proofs.lemmas.Bool.Decides.{nat_tests}
 use Rattle.vm_field.specs.Field.{felt_add, felt_sub, felt_mul}
 use Rattle.vm_field.proofs.Algebra.{felt_mul-zero_first, felt_mul-zero_second}
 use Rattle.vm_ops.specs.Codes.{code_of, every_op, is_ordinary_op, is_start_op, kind_of}
@@ -9,7 +10,7 @@ use Rattle.vm_ops.specs.declared.op.Op.{Op}
 use Rattle.vm_ops.specs.declared.op.Op.TheVariants as ops
 use Rattle.vm_ops.proofs.CodeLemmas.{code_of-different, ordinary-below, ordinary-starts-none}
 use Rattle.vm_table.specs.MainColumns.{b, clk, f, h, sp, ox, c, s, w}
-use Rattle.air_kit.specs.Flags.{Flags, flag, flag_by, flags_of, spelled, sum_of, HasOp}
+use Rattle.air_kit.specs.Flags.{flag, flag_by, flags_of, one_hot, spelled, sum_of, HasOp}
 use Rattle.air_kit.specs.Places.{Claim, Spot, first_fault_of, family}
 use Rattle.air_kit.specs.BoundaryValues.{boundary_values, start_values, inputs_values, end_values, outputs_values}
 use Rattle.air_kit.specs.MainValues.{decoder_values}
@@ -18,435 +19,268 @@ use Rattle.air_kit.specs.BlockValues.{starts, batches, calls, returns, stays_ins
 use Rattle.air_kit.specs.SpanValues.{opcode_in, rest, rest_flag, goes_on, entry_92, entry_95, entry_96, entry_103, entry_104, entry_105, entry_106, entry_107, entry_108, entry_109, entry_110, entry_111, entry_112, entry_113, entry_114, batch_values, group_values, span_values}
 use Rattle.air_kit.proofs.FlagLemmas.{at_op, flag_apart, flags_of-hot, sum_of-hot}
 use Rattle.air_kit.proofs.FaultLemmas.{first_append}
-use Rattle.air_kit.proofs.ZeroLemmas.{Zeros, no_fault, bit_zero}
+use Rattle.air_kit.proofs.ZeroLemmas.{Zeros, no_fault, bit_zero, zeros_family}
 use Rattle.air_blocks.specs.Entries.{of_pair, of_row, spot_with}
 use Rattle.air_decoder.specs.Quick.{HasNoBatch, IsClean, IsFirstBatch, IsFrame, IsNextBatch, IsGoingOn, IsInner, IsOutside, IsOver, IsPlain, IsStep}
 use Rattle.air_decoder.specs.Quick.IsOver.{opens, ends}
-use Rattle.air_decoder.proofs.FaultLemmas.{decoder_joined}
+use Rattle.air_decoder.proofs.FaultLemmas.{batch_length, decoder_joined}
 
--- Flags that are 0 in a row of a plain operation and of a batch.
-record QuietFlags (fl : Flags) : Type 0 where
-  join : fl ops.Join ≡ 0
-  split : fl ops.Split ≡ 0
-  loop : fl ops.Loop ≡ 0
-  call : fl ops.Call ≡ 0
-  syscall : fl ops.Syscall ≡ 0
-  dyn : fl ops.Dyn ≡ 0
-  end : fl ops.End ≡ 0
-  repeat : fl ops.Repeat ≡ 0
-  halt : fl ops.Halt ≡ 0
-  caller : fl ops.Caller ≡ 0
-  update : fl ops.FmpUpdate ≡ 0
+-- ---- lists of zeros
 
--- These, and the others that entries read.
-record RowFlags (fl : Flags) (first again plain : ℕ) : Type 0 where
-  quiet : QuietFlags fl
-  span : fl ops.Span ≡ first
-  respan : fl ops.Respan ≡ again
-  starts : flags_of is_start_op fl ≡ first
-  ordinary : flags_of is_ordinary_op fl ≡ plain
+infixr 20 ◌&◌
+-- one value and those behind it
+abbrev pub ◌&◌ : {P Q : Type 0} → P → Q → P × Q
+p & q = (p, q)
 
-quiet_flags : (x : List ℕ) (op : Op) → HasOp x op
-    → ((n : ℕ) → code_of op ≡ n → (n ≢ 70) × (n ≢ 71) × (n ≢ 72) × (n ≢ 74) × (n ≢ 75) × (n ≢ 76) × (n ≢ 77) × (n ≢ 79) × (n ≢ 9)
-    × (n ≢ 49) × (n ≢ 80))
-    → QuietFlags (flag x)
-quiet_flags x op has other =
-    let o = other (code_of op) refl in
-    record {
-      join = flag_apart x op ops.Join has (λ e. o.0 (sym e));
-      split = flag_apart x op ops.Split has (λ e. o.1 (sym e));
-      loop = flag_apart x op ops.Loop has (λ e. o.2 (sym e));
-      call = flag_apart x op ops.Call has (λ e. o.3 (sym e));
-      syscall = flag_apart x op ops.Syscall has (λ e. o.4 (sym e));
-      dyn = flag_apart x op ops.Dyn has (λ e. o.10 (sym e));
-      end = flag_apart x op ops.End has (λ e. o.5 (sym e));
-      repeat = flag_apart x op ops.Repeat has (λ e. o.6 (sym e));
-      halt = flag_apart x op ops.Halt has (λ e. o.7 (sym e));
-      caller = flag_apart x op ops.Caller has (λ e. o.8 (sym e));
-      update = flag_apart x op ops.FmpUpdate has (λ e. o.9 (sym e));
-    }
+pub zeros_append : (vs ws : List ℕ) → Zeros vs → Zeros ws → Zeros (vs ++ ws)
+zeros_append [] ws front back = back
+zeros_append (v ∷ vs) ws front back = front.0 & zeros_append vs ws front.1 back
+
+-- ---- flags that are 0
+
+-- the flags of a set that the row's operation is not in
+pub flags_off : (test : Op → Bool) (x : List ℕ) (op : Op) → HasOp x op → test op ≡ false → (o : Op) → test o ≡ true → flag x o ≡ 0
+flags_off test x op has out o inside =
+    flag_apart x op o has (λ e. (let same : o ≡ op = code_of-different o op e in
+    let clash : true ≡ false = sym inside ∙ ap test same ∙ out in cc))
+
+-- the operations that have no quick test, and JOIN, SPLIT, REPEAT and END
+abbrev is_loud_code : ℕ → Bool
+is_loud_code n = (nat_lt 69 n && not (eqb n 73 || eqb n 78)) || eqb n 9 || eqb n 49
+
+abbrev pub is_loud : Op → Bool
+is_loud op = is_loud_code (code_of op)
+
+-- those without these four
+abbrev pub is_rare : Op → Bool
+is_rare op = is_loud op && not (eqb (code_of op) 70 || eqb (code_of op) 71 || eqb (code_of op) 76 || eqb (code_of op) 77)
+
+abbrev pub Quiet : List ℕ → Type 0
+Quiet x = (o : Op) → is_loud o ≡ true → flag x o ≡ 0
+
+abbrev pub NotRare : List ℕ → Type 0
+NotRare x = (o : Op) → is_rare o ≡ true → flag x o ≡ 0
+
+not_rare : (x : List ℕ) → Quiet x → NotRare x
+not_rare x quiet o rare = quiet o (and_parts (is_loud o) _ rare).0
+
+-- These, and the others that entries read in a row of a plain operation or of a batch.
+record RowFlags (x : List ℕ) (first again plain : ℕ) : Type 0 where
+  quiet : Quiet x
+  span : flag x ops.Span ≡ first
+  respan : flag x ops.Respan ≡ again
+  starts : flags_of is_start_op (flag x) ≡ first
+  ordinary : flags_of is_ordinary_op (flag x) ≡ plain
+
+row_flags : {first again plain : ℕ} (x : List ℕ) (op : Op) → HasOp x op → is_loud op ≡ false → one_hot op ops.Span ≡ first
+    → one_hot op ops.Respan ≡ again → cond (is_start_op op) 1 0 ≡ first → cond (is_ordinary_op op) 1 0 ≡ plain → RowFlags x first again plain
+row_flags x op has out span respan starts ordinary = record {
+  quiet = flags_off is_loud x op has out;
+  span = has.flags ops.Span ∙ span;
+  respan = has.flags ops.Respan ∙ respan;
+  starts = at_op has (flags_of is_start_op) ∙ flags_of-hot op is_start_op ∙ starts;
+  ordinary = at_op has (flags_of is_ordinary_op) ∙ flags_of-hot op is_ordinary_op ∙ ordinary;
+}
 
 ordinary_on : (op : Op) → code_of op < 70 → is_ordinary_op op ≡ true
 ordinary_on op low = ordinary-below op ∙ lt-ltb (code_of op) 70 low
 
-start_off : (op : Op) → code_of op < 70 → is_start_op op ≡ false
-start_off op low = ordinary-starts-none (kind_of op) (ordinary_on op low)
+plain_quiet : (n : ℕ) → n < 70 → n ≢ 9 → n ≢ 49 → is_loud_code n ≡ false
+plain_quiet n low caller update = grind (arith, nat_tests)
 
-plain_flags : (x : List ℕ) (op : Op) → HasOp x op → IsPlain op → RowFlags (flag x) 0 0 1
+above : (n k : ℕ) → n < 70 → 70 ≤ k → ◌≡◌ {A = ℕ} (cond (eqb k n) 1 0) 0
+above n k low high = grind (arith, nat_tests)
+
+plain_flags : (x : List ℕ) (op : Op) → HasOp x op → IsPlain op → RowFlags x 0 0 1
 plain_flags x op has p =
     let low = p.ordinary in
-    record {
-      quiet = quiet_flags x op has (λ n is. (
-        λ e. omega (arith, e, is, low),
-        λ e. omega (arith, e, is, low),
-        λ e. omega (arith, e, is, low),
-        λ e. omega (arith, e, is, low),
-        λ e. omega (arith, e, is, low),
-        λ e. omega (arith, e, is, low),
-        λ e. omega (arith, e, is, low),
-        λ e. omega (arith, e, is, low),
-        λ e. p.not_caller (is ∙ e),
-        λ e. p.not_update (is ∙ e),
-        λ e. omega (arith, e, is, low),
-      ));
-      span = flag_apart x op ops.Span has (λ e. omega (arith, e, low));
-      respan = flag_apart x op ops.Respan has (λ e. omega (arith, e, low));
-      starts = at_op has (flags_of is_start_op) ∙ flags_of-hot op is_start_op ∙ rw (start_off op low) refl;
-      ordinary = at_op has (flags_of is_ordinary_op) ∙ flags_of-hot op is_ordinary_op ∙ rw (ordinary_on op low) refl;
-    }
-
-span_flags : (x : List ℕ) → HasOp x ops.Span → RowFlags (flag x) 1 0 0
-span_flags x has = record {
-  quiet = quiet_flags x ops.Span has (λ n is. (
-    λ e. omega (arith, e, is),
-    λ e. omega (arith, e, is),
-    λ e. omega (arith, e, is),
-    λ e. omega (arith, e, is),
-    λ e. omega (arith, e, is),
-    λ e. omega (arith, e, is),
-    λ e. omega (arith, e, is),
-    λ e. omega (arith, e, is),
-    λ e. omega (arith, e, is),
-    λ e. omega (arith, e, is),
-    λ e. omega (arith, e, is),
-  ));
-  span = has.flags ops.Span;
-  respan = has.flags ops.Respan;
-  starts = at_op has (flags_of is_start_op) ∙ flags_of-hot ops.Span is_start_op;
-  ordinary = at_op has (flags_of is_ordinary_op) ∙ flags_of-hot ops.Span is_ordinary_op;
-}
-
-respan_flags : (x : List ℕ) → HasOp x ops.Respan → RowFlags (flag x) 0 1 0
-respan_flags x has = record {
-  quiet = quiet_flags x ops.Respan has (λ n is. (
-    λ e. omega (arith, e, is),
-    λ e. omega (arith, e, is),
-    λ e. omega (arith, e, is),
-    λ e. omega (arith, e, is),
-    λ e. omega (arith, e, is),
-    λ e. omega (arith, e, is),
-    λ e. omega (arith, e, is),
-    λ e. omega (arith, e, is),
-    λ e. omega (arith, e, is),
-    λ e. omega (arith, e, is),
-    λ e. omega (arith, e, is),
-  ));
-  span = has.flags ops.Span;
-  respan = has.flags ops.Respan;
-  starts = at_op has (flags_of is_start_op) ∙ flags_of-hot ops.Respan is_start_op;
-  ordinary = at_op has (flags_of is_ordinary_op) ∙ flags_of-hot ops.Respan is_ordinary_op;
-}
+    row_flags x op has (plain_quiet (code_of op) low p.not_caller p.not_update) (above (code_of op) 73 low (omega arith))
+    (above (code_of op) 78 low (omega arith)) (rw (ordinary-starts-none (kind_of op) (ordinary_on op low)) refl) (rw (ordinary_on op low) refl)
 
 -- Entries 1 to 10.
 every_flag : (x : List ℕ) (op : Op) → HasOp x op → felt_sub 1 (sum_of every_op (flag x)) ≡ 0
 every_flag x op has = at_op has (λ fl. felt_sub 1 (sum_of every_op fl)) ∙ rw (sum_of-hot op) refl
 
 behind_first : (n : ℕ) → n ≢ 0 → eqb n 0 ≡ false
-behind_first n apart =
-    elim (cases_Bool (eqb n 0)) [
-      | inl same ↦ absurd (apart (eqb-true n 0 same))
-      | inr differ ↦ differ
-    ]
+behind_first n apart = grind (arith, nat_tests)
 
-not_first : (n v : ℕ) → n ≢ 0 → cond (eqb n 0) v 0 ≡ 0
-not_first n v apart = rw (behind_first n apart) refl
-
-pub opcode_clean : (n : ℕ) (x y : List ℕ) (op : Op) → HasOp x op → n ≢ 0 → felt_sub (felt_sub (clk y) (clk x)) 1 ≡ 0
-    → first_fault_of 1 (opcode_values (spot_with n x (Some y))) ≡ None
-unfolding opcode_values family entry_1 entry_8 entry_9 entry_10
-opcode_clean n x y op has behind clock =
-    no_fault 1 (opcode_values (spot_with n x (Some y))) (
-      bit 0 (omega arith),
-      (
-        bit 1 (omega arith),
-        (
-          bit 2 (omega arith),
-          (
-            bit 3 (omega arith),
-            (
-              bit 4 (omega arith),
-              (
-                bit 5 (omega arith),
-                (
-                  bit 6 (omega arith),
-                  (every_flag x op has, (not_first n (clk x) behind, (clock, tt))),
-                ),
-              ),
-            ),
-          ),
-        ),
-      ),
-    )
-  where
-    bit : (j : ℕ) → j < 7 → felt_mul (b x j) (felt_sub (b x j) 1) ≡ 0
-    bit j h = bit_zero (b x j) (has.bits j h)
-
--- Entries 60 to 91.
-follow_clean : (x y : List ℕ) → RowFlags (flag x) 0 0 1 → IsStep x y → Zeros (follow_values (spot_with 0 x (Some y)))
-unfolding follow_values batches calls starts entry_60 entry_61 entry_62 entry_63 entry_64 entry_65 entry_66 entry_67 entry_68 entry_69
-follow_clean x y r t =
-    let q = r.quiet in (
-      q.halt,
-      (
-        rw (t.inside, r.ordinary) refl,
-        (
-          rw (q.join, q.split, q.call, q.syscall, q.repeat, q.dyn, q.loop) (simp zero-mul),
-          (
-            rw (q.loop) (simp zero-mul),
-            (
-              rw (r.span, r.respan) (simp zero-mul),
-              (
-                rw (t.inside, t.follows) refl,
-                (
-                  rw (q.end) (simp zero-mul),
-                  (rw (q.split, q.loop) (simp zero-mul), (rw (q.repeat) (simp zero-mul), (rw (q.end) (simp zero-mul), tt))),
-                ),
-              ),
-            ),
-          ),
-        ),
-      ),
-    )
-
-batch_follow_clean : (x y : List ℕ) (first again : ℕ) → RowFlags (flag x) first again 0 → sp x ≡ 0 → sp y ≡ 1
-    → Zeros (follow_values (spot_with 0 x (Some y)))
-unfolding follow_values calls starts entry_60 entry_61 entry_62 entry_63 entry_64 entry_65 entry_66 entry_67 entry_68 entry_69
-batch_follow_clean x y first again r outside inside =
-    let q = r.quiet in (
-      q.halt,
-      (
-        rw (outside, r.ordinary) refl,
-        (
-          rw (q.join, q.split, q.call, q.syscall, q.repeat, q.dyn, q.loop) (simp zero-mul),
-          (
-            rw (q.loop) (simp zero-mul),
-            (
-              rw inside (felt_mul-zero_second (batches (flag x)) 0 refl),
-              (
-                rw outside (simp zero-mul),
-                (
-                  rw (q.end) (simp zero-mul),
-                  (rw (q.split, q.loop) (simp zero-mul), (rw (q.repeat) (simp zero-mul), (rw (q.end) (simp zero-mul), tt))),
-                ),
-              ),
-            ),
-          ),
-        ),
-      ),
-    )
-
-pub shown_zeros : (x y : List ℕ) → flag x ops.Loop ≡ 0 → flag x ops.Call ≡ 0 → flag x ops.Syscall ≡ 0 → flag x ops.Dyn ≡ 0
-    → flag x ops.Caller ≡ 0 → flag x ops.Halt ≡ 0
-    → ((j : ℕ) → j < 4 → of_row (entry_70 j) x ≡ 0) → of_row entry_74 x ≡ 0 → Zeros (shown_values (spot_with 0 x (Some y)))
-unfolding shown_values family calls entry_75 entry_79 entry_80 entry_81
-shown_zeros x y loop call syscall dyn caller halt bits kinds = (
-  bits 0 (omega arith),
-  (
-    bits 1 (omega arith),
-    (
-      bits 2 (omega arith),
-      (
-        bits 3 (omega arith),
-        (
-          kinds,
-          (
-            rw (loop, call, syscall, dyn) (simp zero-mul),
-            (
-              rw (loop, call, syscall, dyn) (simp zero-mul),
-              (
-                rw (loop, call, syscall, dyn) (simp zero-mul),
-                (
-                  rw (loop, call, syscall, dyn) (simp zero-mul),
-                  (rw (call, syscall) (simp zero-mul), (rw caller (simp zero-mul), (rw halt (simp zero-mul), tt))),
-                ),
-              ),
-            ),
-          ),
-        ),
-      ),
-    ),
-  ),
-)
-
-pub no_kinds : (x y : List ℕ) → flag x ops.End ≡ 0 → flag x ops.Loop ≡ 0 → flag x ops.Call ≡ 0 → flag x ops.Syscall ≡ 0 → flag x ops.Dyn ≡ 0
-    → flag x ops.Caller ≡ 0 → flag x ops.Halt ≡ 0 → Zeros (shown_values (spot_with 0 x (Some y)))
-unfolding entry_70 entry_74
-no_kinds x y end loop call syscall dyn caller halt =
-    shown_zeros x y loop call syscall dyn caller halt (λ j low. rw end (simp zero-mul)) (rw end (simp zero-mul))
-
-shown_clean : (x y : List ℕ) → QuietFlags (flag x) → Zeros (shown_values (spot_with 0 x (Some y)))
-shown_clean x y q = no_kinds x y q.end q.loop q.call q.syscall q.dyn q.caller q.halt
-
-inside_is : (x : List ℕ) (return : ℕ) → flag x ops.Call ≡ 0 → flag x ops.Syscall ≡ 0 → returns (flag x) x ≡ return
-    → stays_inside (flag x) x ≡ felt_sub (felt_sub 1 0) return
-unfolding stays_inside calls
-inside_is x return call syscall is = rw (call, syscall, is) refl
-
-returns_is : (x : List ℕ) → QuietFlags (flag x) → returns (flag x) x ≡ 0
-unfolding returns
-returns_is x q = rw (q.end) (simp zero-mul)
-
--- entries 82 to 88
-pub record FrameZero (x y : List ℕ) : Type 0 where
-  context : of_pair entry_82 x y ≡ 0
-  locals : of_pair entry_83 x y ≡ 0
-  mode : of_pair entry_84 x y ≡ 0
-  digest_0 : of_pair (entry_85 0) x y ≡ 0
-  digest_1 : of_pair (entry_85 1) x y ≡ 0
-  digest_2 : of_pair (entry_85 2) x y ≡ 0
-  digest_3 : of_pair (entry_85 3) x y ≡ 0
-
-pub frame_zeros : (x y : List ℕ) → flag x ops.Call ≡ 0 → flag x ops.Syscall ≡ 0 → flag x ops.FmpUpdate ≡ 0 → returns (flag x) x ≡ 0
-    → IsFrame x y → FrameZero x y
-unfolding entry_82 entry_83 entry_84 entry_85
-frame_zeros x y call syscall update back k = record {
-  context = rw (call, syscall, inside_is x 0 call syscall back, k.context) (simp zero-mul);
-  locals = rw (call, syscall, update, inside_is x 0 call syscall back, k.locals) (simp zero-mul);
-  mode = rw (call, syscall, inside_is x 0 call syscall back, k.mode) (simp zero-mul);
-  digest_0 = rw (call, back, k.digest_0) (simp zero-mul);
-  digest_1 = rw (call, back, k.digest_1) (simp zero-mul);
-  digest_2 = rw (call, back, k.digest_2) (simp zero-mul);
-  digest_3 = rw (call, back, k.digest_3) (simp zero-mul);
-}
-
--- behind a call the bus of blocks brings the frame back
-pub frame_free : (x y : List ℕ) → flag x ops.Call ≡ 0 → flag x ops.Syscall ≡ 0 → flag x ops.FmpUpdate ≡ 0 → returns (flag x) x ≡ 1 → FrameZero x y
-unfolding entry_82 entry_83 entry_84 entry_85
-frame_free x y call syscall update back = record {
-  context = rw (call, syscall, inside_is x 1 call syscall back) (simp zero-mul);
-  locals = rw (call, syscall, update, inside_is x 1 call syscall back) (simp zero-mul);
-  mode = rw (call, syscall, inside_is x 1 call syscall back) (simp zero-mul);
-  digest_0 = rw (call, back) (simp zero-mul);
-  digest_1 = rw (call, back) (simp zero-mul);
-  digest_2 = rw (call, back) (simp zero-mul);
-  digest_3 = rw (call, back) (simp zero-mul);
-}
-
-frame_clean : (x y : List ℕ) → QuietFlags (flag x) → IsFrame x y → FrameZero x y
-frame_clean x y q k = frame_zeros x y q.call q.syscall q.update (returns_is x q) k
-
-pub kept_list : (x y : List ℕ) → FrameZero x y → of_pair entry_89 x y ≡ 0 → of_pair entry_90 x y ≡ 0 → of_pair entry_91 x y ≡ 0
-    → Zeros (kept_values (spot_with 0 x (Some y)))
-unfolding kept_values family
-kept_list x y z block level batch =
-    (z.context, (z.locals, (z.mode, (z.digest_0, (z.digest_1, (z.digest_2, (z.digest_3, (block, (level, (batch, tt))))))))))
-
-kept_clean : (x y : List ℕ) → RowFlags (flag x) 0 0 1 → IsStep x y → Zeros (kept_values (spot_with 0 x (Some y)))
-unfolding starts entry_89 entry_90 entry_91
-kept_clean x y r t =
-    let k = t.kept in
-    kept_list x y (frame_clean x y r.quiet k.frame) (rw (r.starts, r.quiet.end, k.block) refl) (rw (k.level, r.starts, r.quiet.end) refl)
-    (rw (r.span, r.respan, t.inside, k.batch) (simp zero-mul))
-
-first_kept_clean : (x y : List ℕ) → RowFlags (flag x) 1 0 0 → IsFirstBatch x y → Zeros (kept_values (spot_with 0 x (Some y)))
-unfolding starts entry_89 entry_90 entry_91
-first_kept_clean x y r k =
-    kept_list x y (frame_clean x y r.quiet k.frame) (rw (r.starts, r.quiet.end) (simp zero-mul)) (rw (r.starts, k.level, r.quiet.end) refl)
-    (rw (r.span, r.respan, k.outside, k.batch) (simp zero-mul))
-
-next_kept_clean : (x y : List ℕ) → RowFlags (flag x) 0 1 0 → IsNextBatch x y → Zeros (kept_values (spot_with 0 x (Some y)))
-unfolding starts entry_89 entry_90 entry_91
-next_kept_clean x y r k =
-    kept_list x y (frame_clean x y r.quiet k.frame) (rw (r.starts, r.quiet.end, k.block) refl) (rw (k.level, r.starts, r.quiet.end) refl)
-    (rw (r.span, r.respan, k.outside, k.batch) (simp zero-mul))
-
-pub block_clean : (x y : List ℕ) → Zeros (follow_values (spot_with 0 x (Some y))) → Zeros (shown_values (spot_with 0 x (Some y)))
-    → Zeros (kept_values (spot_with 0 x (Some y))) → first_fault_of 60 (block_values (spot_with 0 x (Some y))) ≡ None
-unfolding block_values
-block_clean x y follow shown kept =
-    first_append 60 (follow_values (spot_with 0 x (Some y))) (shown_values (spot_with 0 x (Some y)) ++ kept_values (spot_with 0 x (Some y)))
-    ∙ rw (no_fault 60 (follow_values (spot_with 0 x (Some y))) follow)
-    (first_append _ (shown_values (spot_with 0 x (Some y))) (kept_values (spot_with 0 x (Some y)))
-    ∙ rw (no_fault _ (shown_values (spot_with 0 x (Some y))) shown) (no_fault _ (kept_values (spot_with 0 x (Some y))) kept))
-
--- Entries 92 to 106.
+-- the products of a flag that is 0
 no_two : (a u v : ℕ) → a ≡ 0 → felt_mul (felt_mul a u) v ≡ 0
 no_two a u v e = felt_mul-zero_first (felt_mul a u) v (felt_mul-zero_first a u e)
 
-batch_clean : (x y : List ℕ) → batches (flag x) ≡ 0 → Zeros (batch_values (spot_with 0 x (Some y)))
-unfolding batch_values family entry_92 entry_95 entry_96 entry_103 entry_104 entry_105 entry_106
-batch_clean x y e = (
-  no_two _ _ _ e,
-  (
-    no_two _ _ _ e,
-    (
-      no_two _ _ _ e,
-      (
-        no_two _ _ _ e,
-        (
-          no_two _ _ _ e,
-          (
-            no_two _ _ _ e,
-            (
-              no_two _ _ _ e,
-              (
-                no_two _ _ _ e,
-                (
-                  no_two _ _ _ e,
-                  (
-                    no_two _ _ _ e,
-                    (
-                      no_two _ _ _ e,
-                      (
-                        felt_mul-zero_first _ _ e,
-                        (felt_mul-zero_first _ _ e, (felt_mul-zero_first _ _ e, (felt_mul-zero_first _ _ e, tt))),
-                      ),
-                    ),
-                  ),
-                ),
-              ),
-            ),
-          ),
-        ),
-      ),
-    ),
-  ),
-)
-
-no_batches : (fl : Flags) → RowFlags fl 0 0 1 → batches fl ≡ 0
-unfolding batches
-no_batches fl r = rw (r.span, r.respan) refl
-
-batch_length : (x y : List ℕ) → length (batch_values (spot_with 0 x (Some y))) ≡ 15
-unfolding batch_values family
-batch_length x y = refl
-
-span_clean : (x y : List ℕ) → first_fault_of 92 (batch_values (spot_with 0 x (Some y))) ≡ None
-    → first_fault_of 107 (group_values (spot_with 0 x (Some y))) ≡ None
-    → first_fault_of 92 (span_values (spot_with 0 x (Some y))) ≡ None
-unfolding span_values
-span_clean x y batch group =
-    first_append 92 (batch_values (spot_with 0 x (Some y))) (group_values (spot_with 0 x (Some y))) ∙ rw (batch, batch_length x y) group
-
--- outside a span no group goes on
 no_ninth : (s a b c d e f g h i : ℕ) → s ≡ 0
     → felt_mul (felt_mul (felt_mul (felt_mul (felt_mul (felt_mul (felt_mul (felt_mul (felt_mul s a) b) c) d) e) f) g) h) i ≡ 0
 no_ninth s a b c d e f g h i z = felt_mul-zero_first _ i (no_two _ g h (no_two _ e f (no_two _ c d (no_two s a b z))))
 
-no_group : (x y : List ℕ) → sp x ≡ 0 → Zeros (group_values (spot_with 0 x (Some y)))
-unfolding group_values entry_107 entry_108 entry_109 entry_110 entry_111 entry_112 entry_113 entry_114
-no_group x y e = (
-  no_two _ _ _ e,
-  (
-    no_two _ _ _ e,
-    (
-      no_two _ _ _ e,
-      (
-        no_two _ _ _ e,
-        (
-          felt_mul-zero_first _ _ (no_two _ _ _ e),
-          (
-            no_two _ _ _ e,
-            (
-              no_two _ _ _ e,
-              (no_ninth _ _ _ _ _ _ _ _ _ _ e, tt),
-            ),
-          ),
-        ),
-      ),
-    ),
-  ),
-)
+pub returns_off : (x : List ℕ) → flag x ops.End ≡ 0 → returns (flag x) x ≡ 0
+unfolding returns
+returns_off x end = rw end (simp zero-mul)
+
+-- ---- a row and the one behind it
+
+module _ (x y : List ℕ) where
+  abbrev pub here : Spot
+  here = spot_with 0 x (Some y)
+
+  -- the entries of a part have no fault
+  abbrev pub NoBlockFault : Type 0
+  NoBlockFault = first_fault_of 60 (block_values here) ≡ None
+
+  abbrev pub NoBatchFault : Type 0
+  NoBatchFault = first_fault_of 92 (batch_values here) ≡ None
+
+  abbrev pub NoGroupFault : Type 0
+  NoGroupFault = first_fault_of 107 (group_values here) ≡ None
+
+  pub opcode_clean : (n : ℕ) (op : Op) → HasOp x op → n ≢ 0 → felt_sub (felt_sub (clk y) (clk x)) 1 ≡ 0
+      → first_fault_of 1 (opcode_values (spot_with n x (Some y))) ≡ None
+  unfolding opcode_values entry_1 entry_8 entry_9 entry_10
+  opcode_clean n op has behind clock =
+      no_fault 1 (opcode_values (spot_with n x (Some y))) (zeros_append _ _ (zeros_family 7 _ (λ j h. bit_zero (b x j) (has.bits j h)))
+      (every_flag x op has & (rw (behind_first n behind) refl) & clock & tt))
+
+  -- Entries 60 to 91.
+  follow_list : Quiet x → of_row entry_61 x ≡ 0 → of_pair entry_64 x y ≡ 0 → of_pair entry_65 x y ≡ 0 → Zeros (follow_values here)
+  unfolding follow_values calls starts entry_60 entry_62 entry_63 entry_66 entry_67 entry_68 entry_69
+  follow_list q ordinary batch next =
+      q ops.Halt refl & ordinary
+      & (rw (
+        q ops.Join refl,
+        q ops.Split refl,
+        q ops.Call refl,
+        q ops.Syscall refl,
+        q ops.Repeat refl,
+        q ops.Dyn refl,
+        q ops.Loop refl,
+      ) (simp zero-mul))
+      & (rw (q ops.Loop refl) (simp zero-mul)) & batch & next & (rw (q ops.End refl) (simp zero-mul))
+      & (rw (q ops.Split refl, q ops.Loop refl) (simp zero-mul)) & (rw (q ops.Repeat refl) (simp zero-mul))
+      & (rw (q ops.End refl) (simp zero-mul)) & tt
+
+  follow_clean : RowFlags x 0 0 1 → IsStep x y → Zeros (follow_values here)
+  unfolding batches entry_61 entry_64 entry_65
+  follow_clean r t =
+      follow_list r.quiet (rw (t.inside, r.ordinary) refl) (rw (r.span, r.respan) (simp zero-mul)) (rw (t.inside, t.follows) refl)
+
+  batch_follow_clean : (first again : ℕ) → RowFlags x first again 0 → sp x ≡ 0 → sp y ≡ 1 → Zeros (follow_values here)
+  unfolding entry_61 entry_64 entry_65
+  batch_follow_clean first again r outside inside =
+      follow_list r.quiet (rw (outside, r.ordinary) refl) (rw inside (felt_mul-zero_second (batches (flag x)) 0 refl))
+      (rw outside (simp zero-mul))
+
+  pub shown_zeros : NotRare x → ((j : ℕ) → j < 4 → of_row (entry_70 j) x ≡ 0) → of_row entry_74 x ≡ 0 → Zeros (shown_values here)
+  unfolding shown_values calls entry_75 entry_79 entry_80 entry_81
+  shown_zeros q bits kinds =
+      zeros_append _ _ (zeros_family 4 _ bits) (kinds
+      & zeros_append _ _
+      (zeros_family 4 _ (λ j h. rw (q ops.Loop refl, q ops.Call refl, q ops.Syscall refl, q ops.Dyn refl) (simp zero-mul)))
+      ((rw (q ops.Call refl, q ops.Syscall refl) (simp zero-mul)) & (rw (q ops.Caller refl) (simp zero-mul))
+      & (rw (q ops.Halt refl) (simp zero-mul)) & tt))
+
+  pub no_kinds : flag x ops.End ≡ 0 → NotRare x → Zeros (shown_values here)
+  unfolding entry_70 entry_74
+  no_kinds end q = shown_zeros q (λ j low. rw end (simp zero-mul)) (rw end (simp zero-mul))
+
+  inside_is : (return : ℕ) → NotRare x → returns (flag x) x ≡ return → stays_inside (flag x) x ≡ felt_sub (felt_sub 1 0) return
+  unfolding stays_inside calls
+  inside_is return q is = rw (q ops.Call refl, q ops.Syscall refl, is) refl
+
+  -- entries 82 to 88
+  pub record FrameZero : Type 0 where
+    context : of_pair entry_82 x y ≡ 0
+    locals : of_pair entry_83 x y ≡ 0
+    mode : of_pair entry_84 x y ≡ 0
+    digest : (j : ℕ) → j < 4 → of_pair (entry_85 j) x y ≡ 0
+
+  digest_kept : IsFrame x y → (j : ℕ) → j < 4 → felt_sub (f y j) (f x j) ≡ 0
+  digest_kept k zero h = k.digest_0
+  digest_kept k (suc zero) h = k.digest_1
+  digest_kept k (suc (suc zero)) h = k.digest_2
+  digest_kept k (suc (suc (suc zero))) h = k.digest_3
+  digest_kept k (suc (suc (suc (suc j)))) h = absurd (omega arith)
+
+  pub frame_zeros : NotRare x → returns (flag x) x ≡ 0 → IsFrame x y → FrameZero
+  unfolding entry_82 entry_83 entry_84 entry_85
+  frame_zeros q back k =
+      let call = q ops.Call refl in
+      let syscall = q ops.Syscall refl in
+      let inside = inside_is 0 q back in
+      record {
+        context = rw (call, syscall, inside, k.context) (simp zero-mul);
+        locals = rw (call, syscall, q ops.FmpUpdate refl, inside, k.locals) (simp zero-mul);
+        mode = rw (call, syscall, inside, k.mode) (simp zero-mul);
+        digest = λ j h. rw (call, back, digest_kept k j h) (simp zero-mul);
+      }
+
+  -- behind a call the bus of blocks brings the frame back
+  pub frame_free : NotRare x → returns (flag x) x ≡ 1 → FrameZero
+  unfolding entry_82 entry_83 entry_84 entry_85
+  frame_free q back =
+      let call = q ops.Call refl in
+      let syscall = q ops.Syscall refl in
+      let inside = inside_is 1 q back in
+      record {
+        context = rw (call, syscall, inside) (simp zero-mul);
+        locals = rw (call, syscall, q ops.FmpUpdate refl, inside) (simp zero-mul);
+        mode = rw (call, syscall, inside) (simp zero-mul);
+        digest = λ j h. rw (call, back) (simp zero-mul);
+      }
+
+  frame_clean : Quiet x → IsFrame x y → FrameZero
+  frame_clean q k = frame_zeros (not_rare x q) (returns_off x (q ops.End refl)) k
+
+  pub kept_list : FrameZero → of_pair entry_89 x y ≡ 0 → of_pair entry_90 x y ≡ 0 → of_pair entry_91 x y ≡ 0 → Zeros (kept_values here)
+  unfolding kept_values
+  kept_list z block level batch = z.context & z.locals & z.mode & zeros_append _ _ (zeros_family 4 _ z.digest) (block & level & batch & tt)
+
+  kept_clean : RowFlags x 0 0 1 → IsStep x y → Zeros (kept_values here)
+  unfolding starts entry_89 entry_90 entry_91
+  kept_clean r t =
+      let k = t.kept in
+      let end = r.quiet ops.End refl in
+      kept_list (frame_clean r.quiet k.frame) (rw (r.starts, end, k.block) refl) (rw (k.level, r.starts, end) refl)
+      (rw (r.span, r.respan, t.inside, k.batch) (simp zero-mul))
+
+  first_kept_clean : RowFlags x 1 0 0 → IsFirstBatch x y → Zeros (kept_values here)
+  unfolding starts entry_89 entry_90 entry_91
+  first_kept_clean r k =
+      let end = r.quiet ops.End refl in
+      kept_list (frame_clean r.quiet k.frame) (rw (r.starts, end) (simp zero-mul)) (rw (r.starts, k.level, end) refl)
+      (rw (r.span, r.respan, k.outside, k.batch) (simp zero-mul))
+
+  next_kept_clean : RowFlags x 0 1 0 → IsNextBatch x y → Zeros (kept_values here)
+  unfolding starts entry_89 entry_90 entry_91
+  next_kept_clean r k =
+      let end = r.quiet ops.End refl in
+      kept_list (frame_clean r.quiet k.frame) (rw (r.starts, end, k.block) refl) (rw (k.level, r.starts, end) refl)
+      (rw (r.span, r.respan, k.outside, k.batch) (simp zero-mul))
+
+  pub block_clean : Zeros (follow_values here) → Zeros (shown_values here) → Zeros (kept_values here) → NoBlockFault
+  unfolding block_values
+  block_clean follow shown kept = no_fault 60 (block_values here) (zeros_append _ _ follow (zeros_append _ _ shown kept))
+
+  quiet_clean : Quiet x → Zeros (follow_values here) → Zeros (kept_values here) → NoBlockFault
+  quiet_clean q follow kept = block_clean follow (no_kinds (q ops.End refl) (not_rare x q)) kept
+
+  -- Entries 92 to 106.
+  batch_clean : batches (flag x) ≡ 0 → NoBatchFault
+  unfolding batch_values entry_92 entry_95 entry_96 entry_103 entry_104 entry_105 entry_106
+  batch_clean e =
+      no_fault 92 (batch_values here) (zeros_append _ _ (zeros_family 3 _ (λ j h. no_two _ _ _ e)) (no_two _ _ _ e
+      & zeros_append _ _ (zeros_family 7 _ (λ j h. no_two _ _ _ e))
+      (felt_mul-zero_first _ _ e & felt_mul-zero_first _ _ e & felt_mul-zero_first _ _ e & felt_mul-zero_first _ _ e & tt)))
+
+  span_clean : NoBatchFault → NoGroupFault
+      → first_fault_of 92 (span_values here) ≡ None
+  unfolding span_values
+  span_clean batch group = first_append 92 (batch_values here) (group_values here) ∙ rw (batch, batch_length here) group
+
+  -- outside a span no group goes on
+  no_group : sp x ≡ 0 → NoGroupFault
+  unfolding group_values entry_107 entry_108 entry_109 entry_110 entry_111 entry_112 entry_113 entry_114
+  no_group e =
+      no_fault 107 (group_values here) (no_two _ _ _ e & no_two _ _ _ e & no_two _ _ _ e & no_two _ _ _ e & felt_mul-zero_first _ _ (no_two _ _ _ e)
+      & no_two _ _ _ e & no_two _ _ _ e & no_ninth _ _ _ _ _ _ _ _ _ _ e & tt)
 
 -- Entries 107 to 114.
 
@@ -474,179 +308,94 @@ places : (a : ℕ) → a < 9
     → felt_mul (felt_mul (felt_mul
     (felt_mul (felt_mul (felt_mul (felt_mul (felt_mul (felt_mul 1 a) (felt_sub a 1)) (felt_sub a 2)) (felt_sub a 3))
     (felt_sub a 4)) (felt_sub a 5)) (felt_sub a 6)) (felt_sub a 7)) (felt_sub a 8) ≡ 0
-places zero l = refl
-places (suc zero) l = refl
-places (suc (suc zero)) l = refl
-places (suc (suc (suc zero))) l = refl
-places (suc (suc (suc (suc zero)))) l = refl
-places (suc (suc (suc (suc (suc zero))))) l = refl
-places (suc (suc (suc (suc (suc (suc zero)))))) l = refl
-places (suc (suc (suc (suc (suc (suc (suc zero))))))) l = refl
-places (suc (suc (suc (suc (suc (suc (suc (suc zero)))))))) l = refl
 places (suc (suc (suc (suc (suc (suc (suc (suc (suc a))))))))) l = absurd (omega arith)
+places a l = refl
 
-place_clean : (fl : Flags) (x : List ℕ) → sp x ≡ 1 → ox x < 9 → entry_114 fl x ≡ 0
-unfolding entry_114
-place_clean fl x inside low = rw inside (places (ox x) low)
+module _ (x y : List ℕ) (left push : ℕ) (is : left ≡ rest x) (pushes : push ≡ flag x ops.Push) (inside : sp x ≡ 1) (low : ox x < 9) where
+  place_clean : entry_114 (flag x) x ≡ 0
+  unfolding entry_114
+  place_clean = rw inside (places (ox x) low)
 
--- A group that goes on.
-group_goes : (x y : List ℕ) (left push : ℕ) → left ≡ rest x → push ≡ flag x ops.Push → sp x ≡ 1 → ox x < 9 → entry_107 (flag x) x ≡ 0
-    → goes_on (flag x) x ≡ 1 → IsGoingOn x y left push → Zeros (group_values (spot_with 0 x (Some y)))
-unfolding group_values entry_108 entry_109 entry_110 entry_111 entry_112 entry_113
-group_goes x y left push is pushes inside low first going g = (
-  first,
-  (
-    rw (inside, going, g.inside) refl,
-    (
-      rw (inside, going, sym is, g.digits) refl,
-      (
-        rw (inside, going, g.place) refl,
-        (
-          rw (inside, going) (simp zero-mul),
-          (rw (inside, g.inside) (simp zero-mul), (rw (inside, g.inside, going, sym pushes, g.count) refl, (place_clean (flag x) x inside low, tt))),
-        ),
-      ),
-    ),
-  ),
-)
+  -- A group that goes on.
+  group_goes : entry_107 (flag x) x ≡ 0 → goes_on (flag x) x ≡ 1 → IsGoingOn x y left push → NoGroupFault x y
+  unfolding group_values entry_108 entry_109 entry_110 entry_111 entry_112 entry_113
+  group_goes first going g =
+      no_fault 107 (group_values (here x y)) (first & (rw (inside, going, g.inside) refl) & (rw (inside, going, sym is, g.digits) refl) & (rw (inside, going, g.place) refl)
+      & (rw (inside, going) (simp zero-mul)) & (rw (inside, g.inside) (simp zero-mul)) & (rw (inside, g.inside, going, sym pushes, g.count) refl)
+      & place_clean & tt)
 
-first_by_rest : (fl : Flags) (x : List ℕ) → sp x ≡ 1 → rest_flag x ≡ 1 → entry_107 fl x ≡ 0
-unfolding entry_107
-first_by_rest fl x inside some = rw (inside, some) (felt_mul-zero_second _ _ refl)
+  flag_some : felt_mul left (w x 3) ≡ 1 → rest_flag x ≡ 1
+  unfolding rest_flag
+  flag_some one = ap (λ a. felt_mul a (w x 3)) (sym is) ∙ one
 
-first_by_none : (fl : Flags) (x : List ℕ) → sp x ≡ 1 → rest x ≡ 0 → entry_107 fl x ≡ 0
-unfolding entry_107
-first_by_none fl x inside none = rw (inside, none) (simp zero-mul)
+  flag_none : left ≡ 0 → rest_flag x ≡ 0
+  unfolding rest_flag
+  flag_none none = felt_mul-zero_first (rest x) (w x 3) (sym is ∙ none)
 
-rest_flag_some : (x : List ℕ) (left : ℕ) → left ≡ rest x → felt_mul left (w x 3) ≡ 1 → rest_flag x ≡ 1
-unfolding rest_flag
-rest_flag_some x left is one = ap (λ a. felt_mul a (w x 3)) (sym is) ∙ one
+  first_none : left ≡ 0 → entry_107 (flag x) x ≡ 0
+  unfolding entry_107
+  first_none none = rw (inside, sym is, none) (simp zero-mul)
 
-rest_flag_none : (x : List ℕ) → rest x ≡ 0 → rest_flag x ≡ 0
-unfolding rest_flag
-rest_flag_none x none = felt_mul-zero_first (rest x) (w x 3) none
+  goes_none : (goes : ℕ) → left ≡ 0 → push ≡ goes → goes < 2 → goes_on (flag x) x ≡ goes
+  unfolding goes_on
+  goes_none goes none pushed bit = rw (flag_none none, sym pushes, pushed) (omega arith)
 
-goes_by_rest : (fl : Flags) (x : List ℕ) → rest_flag x ≡ 1 → goes_on fl x ≡ 1
-unfolding goes_on
-goes_by_rest fl x some = rw some (ap (felt_add 1) (felt_mul-zero_second (fl ops.Push) 0 refl))
+  -- The three cases of the test.
+  pub some_clean : felt_mul left (w x 3) ≡ 1 → IsGoingOn x y left push → NoGroupFault x y
+  unfolding entry_107 goes_on
+  some_clean one g =
+      group_goes (rw (inside, flag_some one) (felt_mul-zero_second _ _ refl))
+      (rw (flag_some one) (ap (felt_add 1) (felt_mul-zero_second (flag x ops.Push) 0 refl))) g
 
-goes_by_push : (fl : Flags) (x : List ℕ) → rest x ≡ 0 → fl ops.Push ≡ 1 → goes_on fl x ≡ 1
-unfolding goes_on
-goes_by_push fl x none push = rw (rest_flag_none x none, push) refl
+  pub push_clean : left ≡ 0 → push ≡ 1 → IsGoingOn x y left push → NoGroupFault x y
+  push_clean none one g = group_goes (first_none none) (goes_none 1 none one (omega arith)) g
 
-goes_not : (fl : Flags) (x : List ℕ) → rest x ≡ 0 → fl ops.Push ≡ 0 → goes_on fl x ≡ 0
-unfolding goes_on
-goes_not fl x none push = rw (rest_flag_none x none, push) refl
-
--- A group behind whose last row another one begins, or the batch ends.
-group_over : (x y : List ℕ) (push : ℕ) → push ≡ flag x ops.Push → sp x ≡ 1 → ox x < 9 → rest x ≡ 0 → goes_on (flag x) x ≡ 0 → IsOver x y push
-    → Zeros (group_values (spot_with 0 x (Some y)))
-unfolding group_values entry_108 entry_109 entry_110 entry_111 entry_112 entry_113
-group_over x y push pushes inside low none stops (opens opening place count) = (
-  first_by_none (flag x) x inside none,
-  (
-    rw (inside, stops) (simp zero-mul),
-    (
-      rw (inside, stops) (simp zero-mul),
-      (
-        rw (inside, stops) (simp zero-mul),
-        (
-          rw (inside, stops, opening, place) refl,
-          (
-            rw (inside, opening) (simp zero-mul),
-            (rw (inside, opening, stops, sym pushes, count) refl, (place_clean (flag x) x inside low, tt)),
-          ),
-        ),
-      ),
-    ),
-  ),
-)
-group_over x y push pushes inside low none stops (ends close count) = (
-  first_by_none (flag x) x inside none,
-  (
-    rw (inside, stops) (simp zero-mul),
-    (
-      rw (inside, stops) (simp zero-mul),
-      (
-        rw (inside, stops) (simp zero-mul),
-        (
-          rw (inside, stops, close) (simp zero-mul),
-          (rw (inside, close, count) refl, (rw (inside, close) (simp zero-mul), (place_clean (flag x) x inside low, tt))),
-        ),
-      ),
-    ),
-  ),
-)
-
--- The three cases of the test.
-pub some_clean : (x y : List ℕ) (left push : ℕ) → left ≡ rest x → push ≡ flag x ops.Push → sp x ≡ 1 → ox x < 9 → felt_mul left (w x 3) ≡ 1
-    → IsGoingOn x y left push → first_fault_of 107 (group_values (spot_with 0 x (Some y))) ≡ None
-some_clean x y left push is pushes inside low one g =
-    let some = rest_flag_some x left is one in
-    no_fault 107 (group_values (spot_with 0 x (Some y)))
-    (group_goes x y left push is pushes inside low (first_by_rest (flag x) x inside some) (goes_by_rest (flag x) x some) g)
-
-pub push_clean : (x y : List ℕ) (left push : ℕ) → left ≡ rest x → push ≡ flag x ops.Push → sp x ≡ 1 → ox x < 9 → left ≡ 0 → push ≡ 1
-    → IsGoingOn x y left push → first_fault_of 107 (group_values (spot_with 0 x (Some y))) ≡ None
-push_clean x y left push is pushes inside low none one g =
-    let nothing : rest x ≡ 0 = sym is ∙ none in
-    no_fault 107 (group_values (spot_with 0 x (Some y)))
-    (group_goes x y left push is pushes inside low (first_by_none (flag x) x inside nothing) (goes_by_push (flag x) x nothing (sym pushes ∙ one)) g)
-
-pub over_clean : (x y : List ℕ) (left push : ℕ) → left ≡ rest x → push ≡ flag x ops.Push → sp x ≡ 1 → ox x < 9 → left ≡ 0 → push ≡ 0
-    → IsOver x y push → first_fault_of 107 (group_values (spot_with 0 x (Some y))) ≡ None
-over_clean x y left push is pushes inside low none zero_is o =
-    let nothing : rest x ≡ 0 = sym is ∙ none in
-    no_fault 107 (group_values (spot_with 0 x (Some y)))
-    (group_over x y push pushes inside low nothing (goes_not (flag x) x nothing (sym pushes ∙ zero_is)) o)
+  -- behind the last row of a group another one begins, or the batch ends
+  pub over_clean : left ≡ 0 → push ≡ 0 → IsOver x y push → NoGroupFault x y
+  unfolding group_values entry_108 entry_109 entry_110 entry_111 entry_112 entry_113
+  over_clean none off (opens opening place count) =
+      let stops = goes_none 0 none off (omega arith) in
+      no_fault 107 (group_values (here x y)) (first_none none & (rw (inside, stops) (simp zero-mul)) & (rw (inside, stops) (simp zero-mul)) & (rw (inside, stops) (simp zero-mul))
+      & (rw (inside, stops, opening, place) refl) & (rw (inside, opening) (simp zero-mul)) & (rw (inside, opening, stops, sym pushes, count) refl)
+      & place_clean & tt)
+  over_clean none off (ends close count) =
+      let stops = goes_none 0 none off (omega arith) in
+      no_fault 107 (group_values (here x y)) (first_none none & (rw (inside, stops) (simp zero-mul)) & (rw (inside, stops) (simp zero-mul)) & (rw (inside, stops) (simp zero-mul))
+      & (rw (inside, stops, close) (simp zero-mul)) & (rw (inside, close, count) refl) & (rw (inside, close) (simp zero-mul)) & place_clean & tt)
 
 -- all of a row
-pub row_clean : (x y : List ℕ) (op : Op) → HasOp x op → IsPlain op → IsStep x y
-    → first_fault_of 107 (group_values (spot_with 0 x (Some y))) ≡ None → IsClean x y
-row_clean x y op has plain step group =
-    let r = plain_flags x op has plain in
-    record {
-      opcode = λ n behind. opcode_clean n x y op has behind step.clock;
-      block = block_clean x y (follow_clean x y r step) (shown_clean x y r.quiet) (kept_clean x y r step);
-      span = span_clean x y (no_fault 92 (batch_values (spot_with 0 x (Some y))) (batch_clean x y (no_batches (flag x) r))) group;
-    }
+module _ (x y : List ℕ) (op : Op) (has : HasOp x op) where
+  clean_of : felt_sub (felt_sub (clk y) (clk x)) 1 ≡ 0 → NoBlockFault x y
+      → NoBatchFault x y → NoGroupFault x y → IsClean x y
+  clean_of clock block batch group =
+      record { opcode = λ n behind. opcode_clean x y n op has behind clock; block = block; span = span_clean x y batch group }
 
-pub first_batch_clean : (x y : List ℕ) (op : Op) → HasOp x op → code_of op ≡ 73 → IsFirstBatch x y
-    → first_fault_of 92 (batch_values (spot_with 0 x (Some y))) ≡ None
-    → IsClean x y
-first_batch_clean x y op has is step batch =
-    let r = span_flags x (subst (HasOp x) (code_of-different op ops.Span is) has) in
-    record {
-      opcode = λ n behind. opcode_clean n x y op has behind step.clock;
-      block = block_clean x y (batch_follow_clean x y 1 0 r step.outside step.inside) (shown_clean x y r.quiet) (first_kept_clean x y r step);
-      span = span_clean x y batch (no_fault 107 (group_values (spot_with 0 x (Some y))) (no_group x y step.outside));
-    }
+  pub row_clean : IsPlain op → IsStep x y → NoGroupFault x y → IsClean x y
+  unfolding batches
+  row_clean plain step group =
+      let r = plain_flags x op has plain in
+      clean_of step.clock (quiet_clean x y r.quiet (follow_clean x y r step) (kept_clean x y r step))
+      (batch_clean x y (rw (r.span, r.respan) refl)) group
 
-pub next_batch_clean : (x y : List ℕ) (op : Op) → HasOp x op → code_of op ≡ 78 → IsNextBatch x y
-    → first_fault_of 92 (batch_values (spot_with 0 x (Some y))) ≡ None
-    → IsClean x y
-next_batch_clean x y op has is step batch =
-    let r = respan_flags x (subst (HasOp x) (code_of-different op ops.Respan is) has) in
-    record {
-      opcode = λ n behind. opcode_clean n x y op has behind step.clock;
-      block = block_clean x y (batch_follow_clean x y 0 1 r step.outside step.inside) (shown_clean x y r.quiet) (next_kept_clean x y r step);
-      span = span_clean x y batch (no_fault 107 (group_values (spot_with 0 x (Some y))) (no_group x y step.outside));
-    }
+  pub first_batch_clean : code_of op ≡ 73 → IsFirstBatch x y → NoBatchFault x y → IsClean x y
+  first_batch_clean is step batch =
+      let r = row_flags x ops.Span (subst (HasOp x) (code_of-different op ops.Span is) has) refl refl refl refl refl in
+      clean_of step.clock (quiet_clean x y r.quiet (batch_follow_clean x y 1 0 r step.outside step.inside) (first_kept_clean x y r step)) batch
+      (no_group x y step.outside)
 
-no_batch : (x : List ℕ) (op : Op) → HasOp x op → HasNoBatch op → batches (flag x) ≡ 0
-unfolding batches
-no_batch x op has apart =
-    rw (flag_apart x op ops.Span has (λ e. apart.not_span (sym e)), flag_apart x op ops.Respan has (λ e. apart.not_respan (sym e))) refl
+  pub next_batch_clean : code_of op ≡ 78 → IsNextBatch x y → NoBatchFault x y → IsClean x y
+  next_batch_clean is step batch =
+      let r = row_flags x ops.Respan (subst (HasOp x) (code_of-different op ops.Respan is) has) refl refl refl refl refl in
+      clean_of step.clock (quiet_clean x y r.quiet (batch_follow_clean x y 0 1 r step.outside step.inside) (next_kept_clean x y r step)) batch
+      (no_group x y step.outside)
 
-pub outside_clean : (x y : List ℕ) (op : Op) → HasOp x op → HasNoBatch op → IsOutside x y
-    → first_fault_of 60 (block_values (spot_with 0 x (Some y))) ≡ None
-    → IsClean x y
-outside_clean x y op has apart step block = record {
-  opcode = λ n behind. opcode_clean n x y op has behind step.clock;
-  block = block;
-  span = span_clean x y (no_fault 92 (batch_values (spot_with 0 x (Some y))) (batch_clean x y (no_batch x op has apart)))
-      (no_fault 107 (group_values (spot_with 0 x (Some y))) (no_group x y step.outside));
-}
+  pub outside_clean : HasNoBatch op → IsOutside x y → NoBlockFault x y → IsClean x y
+  unfolding batches
+  outside_clean apart step block =
+      clean_of step.clock block
+      (batch_clean x y
+      (rw (flag_apart x op ops.Span has (λ e. apart.not_span (sym e)), flag_apart x op ops.Respan has (λ e. apart.not_respan (sym e))) refl))
+      (no_group x y step.outside)
 
 -- The whole list of a row behind the first one.
 boundary_clean : (claim : Claim) (n : ℕ) (x y : List ℕ) → n ≢ 0 → first_fault_of 11 (boundary_values claim (spot_with n x (Some y))) ≡ None
@@ -671,24 +420,10 @@ pub low_place : (value read place : ℕ) → value ≡ read → read ≡ place �
 low_place value read place is shown low = omega arith
 
 -- Bits 3 and 6 of END and RESPAN are 1.
-end_by_six : (y : List ℕ) → b y 6 ≡ 0 → flag y ops.End ≡ 0
-unfolding flag flag_by
-end_by_six y e = rw e (simp (zero-mul, mul-zero))
-
-respan_by_six : (y : List ℕ) → b y 6 ≡ 0 → flag y ops.Respan ≡ 0
-unfolding flag flag_by
-respan_by_six y e = rw e (simp (zero-mul, mul-zero))
-
-end_by_three : (y : List ℕ) → b y 3 ≡ 0 → flag y ops.End ≡ 0
-unfolding flag flag_by
-end_by_three y e = rw e (simp (zero-mul, mul-zero))
-
-respan_by_three : (y : List ℕ) → b y 3 ≡ 0 → flag y ops.Respan ≡ 0
-unfolding flag flag_by
-respan_by_three y e = rw e (simp (zero-mul, mul-zero))
-
 pub follows_by_six : (y : List ℕ) → sp y ≡ 1 → b y 6 ≡ 0 → felt_sub (felt_sub (felt_sub 1 (sp y)) (flag y ops.End)) (flag y ops.Respan) ≡ 0
-follows_by_six y inside e = rw (inside, end_by_six y e, respan_by_six y e) refl
+unfolding flag flag_by
+follows_by_six y inside e = rw (inside, e) (simp mul-zero)
 
 pub follows_by_three : (y : List ℕ) → sp y ≡ 1 → b y 3 ≡ 0 → felt_sub (felt_sub (felt_sub 1 (sp y)) (flag y ops.End)) (flag y ops.Respan) ≡ 0
-follows_by_three y inside e = rw (inside, end_by_three y e, respan_by_three y e) refl
+unfolding flag flag_by
+follows_by_three y inside e = rw (inside, e) (simp (zero-mul, mul-zero))

@@ -1,5 +1,5 @@
 -- The terms of the cells that an operation leaves, and the places from which a shift brings cells.
-use Rattle.std.proofs.Common.{◌≡◌, ◌≢◌, ℕ, zero, suc, ◌+◌, ◌-◌, ◌<◌, ◌≤◌, ◌%◌, Bool, true, false, ◌&&◌, cond, eqb, nat_lt, List, map, get_or, length, refl, sym, ◌∙◌, arith}
+use Rattle.std.proofs.Common.{◌≡◌, ◌≢◌, ℕ, suc, ◌+◌, ◌-◌, ◌<◌, ◌≤◌, ◌%◌, Bool, true, false, ◌&&◌, cond, eqb, nat_lt, List, map, get_or, length, refl, sym, ◌∙◌, arith}
 use Rattle.std.proofs.lemmas.List.{get_or-map}
 use Rattle.std.proofs.lemmas.Bool.Decides.{nat_tests}
 use Rattle.std.specs.List.{All}
@@ -17,23 +17,8 @@ use Rattle.air_kit.proofs.FlagLemmas.{at_op, sum_over-hot}
 -- cell k of the sixteen
 pub cell_of : (x : List ℕ) (k : ℕ) → k < 16 → get_or (cells x) k 0 ≡ s x k
 unfolding cells
-cell_of x zero h = refl
-cell_of x (suc zero) h = refl
-cell_of x (suc (suc zero)) h = refl
-cell_of x (suc (suc (suc zero))) h = refl
-cell_of x (suc (suc (suc (suc zero)))) h = refl
-cell_of x (suc (suc (suc (suc (suc zero))))) h = refl
-cell_of x (suc (suc (suc (suc (suc (suc zero)))))) h = refl
-cell_of x (suc (suc (suc (suc (suc (suc (suc zero))))))) h = refl
-cell_of x (suc (suc (suc (suc (suc (suc (suc (suc zero)))))))) h = refl
-cell_of x (suc (suc (suc (suc (suc (suc (suc (suc (suc zero))))))))) h = refl
-cell_of x (suc (suc (suc (suc (suc (suc (suc (suc (suc (suc zero)))))))))) h = refl
-cell_of x (suc (suc (suc (suc (suc (suc (suc (suc (suc (suc (suc zero))))))))))) h = refl
-cell_of x (suc (suc (suc (suc (suc (suc (suc (suc (suc (suc (suc (suc zero)))))))))))) h = refl
-cell_of x (suc (suc (suc (suc (suc (suc (suc (suc (suc (suc (suc (suc (suc zero))))))))))))) h = refl
-cell_of x (suc (suc (suc (suc (suc (suc (suc (suc (suc (suc (suc (suc (suc (suc zero)))))))))))))) h = refl
-cell_of x (suc (suc (suc (suc (suc (suc (suc (suc (suc (suc (suc (suc (suc (suc (suc zero))))))))))))))) h = refl
-cell_of x (suc (suc (suc (suc (suc (suc (suc (suc (suc (suc (suc (suc (suc (suc (suc (suc k)))))))))))))))) h = absurd (omega (arith, h))
+cell_of x (suc (suc (suc (suc (suc (suc (suc (suc (suc (suc (suc (suc (suc (suc (suc (suc k)))))))))))))))) h = absurd (omega arith)
+cell_of x k h = refl
 
 -- the operations that compute no value of their own leave copies of cells, or what other entries and buses fix
 pub moved_term : (j : ℕ) (x y : List ℕ) (op : Op) → op ≢ ops.Eqz → op ≢ ops.Eq → op ≢ ops.Inv → op ≢ ops.CSwap → op ≢ ops.CSwapW
@@ -61,42 +46,43 @@ moved_term j x y ops.Clk n0 n1 n2 n3 n4 n5 n6 n7 n8 n9 n10 n11 n12 n13 n14 n15 n
 moved_term j x y op n0 n1 n2 n3 n4 n5 n6 n7 n8 n9 n10 n11 n12 n13 n14 n15 n16 = refl
 
 -- an operation that leaves as many cells as it has sources leaves copies of them, and computes nothing
-pub copied_term : (j : ℕ) (x y : List ℕ) (op : Op) → length (sources_of op) ≡ leaves_of op
-    → top_term j x y op ≡ felt_sub (s y j) (get_or (map (λ k. get_or (cells x) k 0) (sources_of op)) j 0)
-unfolding top_term left_value left_cells computed seen_of
-copied_term j x y ops.Eqz is = absurd (omega (arith, is))
-copied_term j x y ops.Eq is = absurd (omega (arith, is))
-copied_term j x y ops.Inv is = absurd (omega (arith, is))
-copied_term j x y ops.CSwap is = absurd (omega (arith, is))
-copied_term j x y ops.CSwapW is = absurd (omega (arith, is))
-copied_term j x y ops.Neg is = absurd (omega (arith, is))
-copied_term j x y ops.Incr is = absurd (omega (arith, is))
-copied_term j x y ops.Not is = absurd (omega (arith, is))
-copied_term j x y ops.FmpAdd is = absurd (omega (arith, is))
-copied_term j x y ops.Caller is = absurd (omega (arith, is))
-copied_term j x y ops.Add is = absurd (omega (arith, is))
-copied_term j x y ops.Mul is = absurd (omega (arith, is))
-copied_term j x y ops.And is = absurd (omega (arith, is))
-copied_term j x y ops.Or is = absurd (omega (arith, is))
-copied_term j x y ops.Pad is = absurd (omega (arith, is))
-copied_term j x y ops.SDepth is = absurd (omega (arith, is))
-copied_term j x y ops.Clk is = absurd (omega (arith, is))
-copied_term j x y ops.Push is = absurd (omega (arith, is))
-copied_term j x y ops.AdvPop is = absurd (omega (arith, is))
-copied_term j x y ops.AdvPopW is = absurd (omega (arith, is))
-copied_term j x y ops.MLoad is = absurd (omega (arith, is))
-copied_term j x y ops.MLoadW is = absurd (omega (arith, is))
-copied_term j x y ops.HPerm is = absurd (omega (arith, is))
-copied_term j x y ops.U32And is = absurd (omega (arith, is))
-copied_term j x y ops.U32Xor is = absurd (omega (arith, is))
-copied_term j x y ops.U32Split is = absurd (omega (arith, is))
-copied_term j x y ops.U32Add is = absurd (omega (arith, is))
-copied_term j x y ops.U32Sub is = absurd (omega (arith, is))
-copied_term j x y ops.U32Mul is = absurd (omega (arith, is))
-copied_term j x y ops.U32Div is = absurd (omega (arith, is))
-copied_term j x y ops.U32Add3 is = absurd (omega (arith, is))
-copied_term j x y ops.U32MAdd is = absurd (omega (arith, is))
-copied_term j x y op is = refl
+module _ (j : ℕ) (x y : List ℕ) where
+  pub copied_term : (op : Op) → length (sources_of op) ≡ leaves_of op
+      → top_term j x y op ≡ felt_sub (s y j) (get_or (map (λ k. get_or (cells x) k 0) (sources_of op)) j 0)
+  unfolding top_term left_value left_cells computed seen_of
+  copied_term ops.Eqz is = absurd (omega arith)
+  copied_term ops.Eq is = absurd (omega arith)
+  copied_term ops.Inv is = absurd (omega arith)
+  copied_term ops.CSwap is = absurd (omega arith)
+  copied_term ops.CSwapW is = absurd (omega arith)
+  copied_term ops.Neg is = absurd (omega arith)
+  copied_term ops.Incr is = absurd (omega arith)
+  copied_term ops.Not is = absurd (omega arith)
+  copied_term ops.FmpAdd is = absurd (omega arith)
+  copied_term ops.Caller is = absurd (omega arith)
+  copied_term ops.Add is = absurd (omega arith)
+  copied_term ops.Mul is = absurd (omega arith)
+  copied_term ops.And is = absurd (omega arith)
+  copied_term ops.Or is = absurd (omega arith)
+  copied_term ops.Pad is = absurd (omega arith)
+  copied_term ops.SDepth is = absurd (omega arith)
+  copied_term ops.Clk is = absurd (omega arith)
+  copied_term ops.Push is = absurd (omega arith)
+  copied_term ops.AdvPop is = absurd (omega arith)
+  copied_term ops.AdvPopW is = absurd (omega arith)
+  copied_term ops.MLoad is = absurd (omega arith)
+  copied_term ops.MLoadW is = absurd (omega arith)
+  copied_term ops.HPerm is = absurd (omega arith)
+  copied_term ops.U32And is = absurd (omega arith)
+  copied_term ops.U32Xor is = absurd (omega arith)
+  copied_term ops.U32Split is = absurd (omega arith)
+  copied_term ops.U32Add is = absurd (omega arith)
+  copied_term ops.U32Sub is = absurd (omega arith)
+  copied_term ops.U32Mul is = absurd (omega arith)
+  copied_term ops.U32Div is = absurd (omega arith)
+  copied_term ops.U32Add3 is = absurd (omega arith)
+  copied_term ops.U32MAdd is = absurd (omega arith)
+  copied_term op is = refl
 
 -- no shift is by more than one cell
 nearly : (op : Op) → takes_of op ≤ leaves_of op + 1

@@ -1,13 +1,15 @@
--- What the entries 61 and 67 to 91 say where they are 0, one by one.
-use Rattle.facts_main.proofs.Words.{◌≡◌, ◌⊎◌, ℕ, ◌+◌, ◌^◌, ◌<◌, ◌≤◌, Bool, true, false, ◌&&◌, ◌||◌, not, cond, eqb, List, slice_index, refl, sym, ap, ◌∙◌}
-use Rattle.facts_main.proofs.Words.{arith, lit<, prime, felt_add, felt_sub, felt_mul, is_ordinary_op, is_start_op, Op, clk, fmp, ctx, sys, f, addr, h, sp, s}
-use Rattle.facts_main.proofs.Words.{ha, lv, is_op, is_call_op, is_batch_op, IsEndRow, ends_call, keeps_digest}
+-- What the entries 70 to 91 say where they are 0, and back.
+use Rattle.facts_main.proofs.Words.{◌≡◌, ◌⊎◌, ℕ, zero, suc, ◌+◌, ◌<◌, ◌≤◌, Bool, true, false, ◌&&◌, ◌||◌, not, cond, eqb, List, slice_index, refl, sym, ap, ◌∙◌, inl, inr}
+use Rattle.facts_main.proofs.Words.{arith, lit<, ◌^◌, prime, felt_add, felt_sub, is_ordinary_op, is_start_op, Op, h, s}
+use Rattle.facts_main.proofs.Words.{is_op, is_call_op, is_batch_op, op_of, may_follow, Spot, HasOps, IsBlockRow, IsEndRow, KeepsBatch, KeepsBlock, ends_call, keeps_digest}
 use Rattle.vm_ops.specs.declared.op.Op.TheVariants as ops
-use Rattle.air_kit.specs.BlockValues.{starts, calls, returns, stays_inside, kind_flags, entry_61, entry_67, entry_68, entry_69, entry_70, entry_74, entry_75, entry_79, entry_80, entry_81, entry_82, entry_83, entry_84, entry_85, entry_89, entry_90, entry_91}
-use Rattle.facts_main.specs.Blocks.{stays_in_function, keeps_frame, keeps_block, level_after}
-use Rattle.facts_main.proofs.Says.{Says, says_of, says_as, never, rest_low, zero_says, sub_says, sub_twice_says, bit_says, mul_says, gate_says, gate_product_says, two_say, three_say, four_say, tested_bit, and_false}
-use Rattle.facts_main.proofs.Hot.{hot, set_is}
-use Rattle.facts_main.proofs.FollowFacts.{starts_is}
+use Rattle.air_kit.specs.BlockValues.{starts, calls, returns, stays_inside, kind_flags, block_values, shown_values, kept_values, entry_70, entry_74, entry_75, entry_79, entry_80, entry_81, entry_82, entry_83, entry_84, entry_85, entry_89, entry_90, entry_91}
+use Rattle.facts_main.specs.Blocks.{stays_in_function, keeps_frame, keeps_block}
+use Rattle.facts_main.proofs.Says.{Says, never, rest_low, rest_says, zero_says, sub_says, sub_twice_says, gate, gate_bit, one, both, both_say, less_one, less_more, any_or_none, tested_bit, and_false}
+use Rattle.facts_main.proofs.Hot.{hot}
+use Rattle.facts_main.proofs.Means.{Means, ◌▸◌, ◌⧺◌, ◌&◌, each, means_as, nothing, part_then}
+use Rattle.facts_main.proofs.SpotSays.{Behind, row_at, pair_at}
+use Rattle.facts_main.proofs.FollowFacts.{Conditions, follow_means, starts_is}
 
 -- each cell is an element
 abbrev pub Low : List ℕ → Type 0
@@ -19,10 +21,6 @@ pub calls_is : (op : Op) → calls (hot op) ≡ cond (is_call_op op) 1 0
 unfolding calls
 calls_is ops.Call = refl
 calls_is op = refl
-
-conditions_is : (op : Op) → felt_add (hot op ops.Split) (hot op ops.Loop) ≡ cond (is_op op ops.Split || is_op op ops.Loop) 1 0
-conditions_is ops.Split = refl
-conditions_is op = refl
 
 singles : (op : Op) → felt_add (felt_add (hot op ops.Loop) (cond (is_call_op op) 1 0)) (hot op ops.Dyn)
     ≡ cond (is_op op ops.Loop || is_call_op op || is_op op ops.Dyn) 1 0
@@ -36,23 +34,6 @@ singles_is op = ap (λ n. felt_add (felt_add (hot op ops.Loop) n) (hot op ops.Dy
 few_flags : (i j k l : ℕ) → i + j + k + l ≤ 1 → felt_add k l < 2
 few_flags i j k l most = omega (arith, most)
 
-pub returns_is : (op : Op) (x : List ℕ) → (is_op op ops.End ≡ true → IsEndRow x) → returns (hot op) x ≡ cond (ends_call op x) 1 0
-unfolding returns
-returns_is op x ends = tested_bit (is_op op ops.End) (felt_add (h x 6) (h x 7)) (λ is. few_flags (h x 4) (h x 5) (h x 6) (h x 7) (ends is).most)
-
--- what neither test passes
-neither : (t u : Bool) → t && u ≡ false → felt_sub (felt_sub 1 (cond t 1 0)) (cond u 1 0) ≡ cond (not (t || u)) 1 0
-neither true true apart = never apart
-neither true false apart = refl
-neither false true apart = refl
-neither false false apart = refl
-
-nor : (t u : Bool) → t && u ≡ false → felt_sub (cond (not t) 1 0) (cond u 1 0) ≡ cond (not (t || u)) 1 0
-nor true true apart = never apart
-nor true false apart = refl
-nor false true apart = refl
-nor false false apart = refl
-
 call_or_end : (op : Op) (x : List ℕ) → is_call_op op && ends_call op x ≡ false
 call_or_end ops.Call x = refl
 call_or_end op x = refl
@@ -65,125 +46,97 @@ frame_or_call : (op : Op) (x : List ℕ) → (is_call_op op || ends_call op x) &
 frame_or_call ops.End x = and_false (eqb (felt_add (h x 6) (h x 7)) 1)
 frame_or_call op x = refl
 
-inside_is : (op : Op) (x : List ℕ) → (is_op op ops.End ≡ true → IsEndRow x) → stays_inside (hot op) x ≡ cond (stays_in_function op x) 1 0
-unfolding stays_inside
-inside_is op x ends =
-    ap (λ n. felt_sub (felt_sub 1 n) (returns (hot op) x)) (calls_is op)
-    ∙ ap (λ n. felt_sub (felt_sub 1 (cond (is_call_op op) 1 0)) n) (returns_is op x ends)
-    ∙ neither (is_call_op op) (ends_call op x) (call_or_end op x)
+-- the tests of an END's row, whose flags are bits
+module _ (op : Op) (x : List ℕ) (ends : is_op op ops.End ≡ true → IsEndRow x) where
+  pub returns_is : returns (hot op) x ≡ cond (ends_call op x) 1 0
+  unfolding returns
+  returns_is = tested_bit (is_op op ops.End) (felt_add (h x 6) (h x 7)) (λ is. few_flags (h x 4) (h x 5) (h x 6) (h x 7) (ends is).most)
 
-digest_is : (op : Op) (x : List ℕ) → (is_op op ops.End ≡ true → IsEndRow x)
-    → felt_sub (felt_sub 1 (hot op ops.Call)) (returns (hot op) x) ≡ cond (keeps_digest op x) 1 0
-digest_is op x ends =
-    ap (λ n. felt_sub (felt_sub 1 (hot op ops.Call)) n) (returns_is op x ends)
-    ∙ neither (is_op op ops.Call) (ends_call op x) (one_call_or_end op x)
+  inside_is : stays_inside (hot op) x ≡ cond (stays_in_function op x) 1 0
+  unfolding stays_inside
+  inside_is = less_more _ _ (less_one _ (calls_is op)) returns_is (call_or_end op x)
 
-frame_is : (op : Op) (x : List ℕ) → (is_op op ops.End ≡ true → IsEndRow x)
-    → felt_sub (stays_inside (hot op) x) (hot op ops.FmpUpdate) ≡ cond (keeps_frame op x) 1 0
-frame_is op x ends =
-    ap (λ n. felt_sub n (hot op ops.FmpUpdate)) (inside_is op x ends)
-    ∙ nor (is_call_op op || ends_call op x) (is_op op ops.FmpUpdate) (frame_or_call op x)
+  digest_is : felt_sub (felt_sub 1 (hot op ops.Call)) (returns (hot op) x) ≡ cond (keeps_digest op x) 1 0
+  digest_is = less_more _ _ (less_one (is_op op ops.Call) refl) returns_is (one_call_or_end op x)
+
+  frame_is : felt_sub (stays_inside (hot op) x) (hot op ops.FmpUpdate) ≡ cond (keeps_frame op x) 1 0
+  frame_is = less_more _ (is_op op ops.FmpUpdate) inside_is refl (frame_or_call op x)
 
 start_or_end : (op : Op) → is_start_op op && is_op op ops.End ≡ false
 start_or_end ops.Join = refl
 start_or_end op = refl
 
 block_is : (op : Op) → felt_sub (felt_sub 1 (starts (hot op))) (hot op ops.End) ≡ cond (keeps_block op) 1 0
-block_is op =
-    ap (λ n. felt_sub (felt_sub 1 n) (hot op ops.End)) (starts_is op) ∙ neither (is_start_op op) (is_op op ops.End) (start_or_end op)
+block_is op = less_more _ (is_op op ops.End) (less_one _ (starts_is op)) refl (start_or_end op)
 
 -- ---- the row
-
-pub says_61 : (op : Op) (x : List ℕ) → Low x → Says (entry_61 (hot op) x) (sp x ≡ cond (is_ordinary_op op) 1 0)
-unfolding entry_61
-says_61 op x low =
-    says_of (ap (λ n. felt_sub (sp x) n) (set_is op is_ordinary_op))
-    (sub_says (sp x) (cond (is_ordinary_op op) 1 0) (low 24) (test_low (is_ordinary_op op)))
-  where
-    test_low : (t : Bool) → cond t 1 0 < prime
-    test_low true = lit< tt
-    test_low false = lit< tt
-
-pub says_67 : (op : Op) (x : List ℕ) → Low x → Says (entry_67 (hot op) x) (is_op op ops.Split || is_op op ops.Loop ≡ true → s x 0 < 2)
-unfolding entry_67
-says_67 op x low =
-    says_of (ap (λ n. felt_mul (felt_mul n (s x 0)) (felt_sub (s x 0) 1)) (conditions_is op))
-    (gate_product_says (is_op op ops.Split || is_op op ops.Loop) (s x 0) (felt_sub (s x 0) 1) (low 30) (bit_says (s x 0) (low 30)))
-
-pub says_68 : (op : Op) (x : List ℕ) → Low x → Says (entry_68 (hot op) x) (is_op op ops.Repeat ≡ true → s x 0 ≡ 1)
-unfolding entry_68
-says_68 op x low = gate_says (is_op op ops.Repeat) (sub_says (s x 0) 1 (low 30) (lit< tt))
-
-pub says_69 : (op : Op) (x : List ℕ) → Low x → Says (entry_69 (hot op) x) (is_op op ops.End ≡ true → (h x 4 ≡ 0) ⊎ (s x 0 ≡ 0))
-unfolding entry_69
-says_69 op x low =
-    gate_product_says (is_op op ops.End) (h x 4) (s x 0) (low 20) (mul_says (zero_says (h x 4) (low 20)) (zero_says (s x 0) (low 30)))
-
-pub says_70 : (op : Op) (x : List ℕ) (j : ℕ) → Low x → Says (entry_70 j (hot op) x) (is_op op ops.End ≡ true → h x (4 + j) < 2)
-unfolding entry_70
-says_70 op x j low =
-    gate_product_says (is_op op ops.End) (h x (4 + j)) (felt_sub (h x (4 + j)) 1) (low (16 + (4 + j))) (bit_says (h x (4 + j)) (low (16 + (4 + j))))
 
 kinds_low : (x : List ℕ) → kind_flags x < prime
 unfolding kind_flags
 kinds_low x = rest_low _
 
-pub says_74 : (op : Op) (x : List ℕ) → Says (entry_74 (hot op) x) (is_op op ops.End ≡ true → kind_flags x < 2)
-unfolding entry_74
-says_74 op x =
-    gate_product_says (is_op op ops.End) (kind_flags x) (felt_sub (kind_flags x) 1) (kinds_low x) (bit_says (kind_flags x) (kinds_low x))
-
-pub says_75 : (op : Op) (x : List ℕ) (j : ℕ) → Low x
-    → Says (entry_75 j (hot op) x) (is_op op ops.Loop || is_call_op op || is_op op ops.Dyn ≡ true → h x (4 + j) ≡ 0)
-unfolding entry_75
-says_75 op x j low =
-    says_of (ap (λ n. felt_mul n (h x (4 + j))) (singles_is op))
-    (gate_says (is_op op ops.Loop || is_call_op op || is_op op ops.Dyn) (zero_says (h x (4 + j)) (low (16 + (4 + j)))))
-
-pub says_79 : (op : Op) (x : List ℕ) → Low x → Says (entry_79 (hot op) x) (is_call_op op ≡ true → sys x ≡ 0)
-unfolding entry_79
-says_79 op x low = says_of (ap (λ n. felt_mul n (sys x)) (calls_is op)) (gate_says (is_call_op op) (zero_says (sys x) (low 3)))
-
-pub says_80 : (op : Op) (x : List ℕ) → Low x → Says (entry_80 (hot op) x) (is_op op ops.Caller ≡ true → sys x ≡ 1)
-unfolding entry_80
-says_80 op x low = gate_says (is_op op ops.Caller) (says_as (sub_says 1 (sys x) (lit< tt) (low 3)) (λ e. sym e) (λ e. sym e))
-
-pub says_81 : (op : Op) (x : List ℕ) → Low x → Says (entry_81 (hot op) x) (is_op op ops.Halt ≡ true → addr x ≡ 0)
-unfolding entry_81
-says_81 op x low = gate_says (is_op op ops.Halt) (zero_says (addr x) (low 8))
-
 -- an END's flags: each a bit, and at most one of them set
-pub few_kinds : (i j k l : ℕ) → i < 2 → j < 2 → k < 2 → l < 2 → felt_add (felt_add (felt_add i j) k) l < 2 → i + j + k + l ≤ 1
-few_kinds i j k l hi hj hk hl few = omega (arith, hi, hj, hk, hl, few)
+few_kinds : (x : List ℕ) → ((j : ℕ) → j < 4 → h x (4 + j) < 2) → kind_flags x < 2 → h x 4 + h x 5 + h x 6 + h x 7 ≤ 1
+unfolding kind_flags
+few_kinds x bits few = by (h x 4) (h x 5) (h x 6) (h x 7) (bits 0 (lit< tt)) (bits 1 (lit< tt)) (bits 2 (lit< tt)) (bits 3 (lit< tt)) few
+  where
+    by : (i j k l : ℕ) → i < 2 → j < 2 → k < 2 → l < 2 → felt_add (felt_add (felt_add i j) k) l < 2 → i + j + k + l ≤ 1
+    by i j k l hi hj hk hl few = omega arith
 
-pub most_kinds : (i j k l : ℕ) → i + j + k + l ≤ 1 → felt_add (felt_add (felt_add i j) k) l < 2
-most_kinds i j k l most = omega (arith, most)
+most_kinds : (x : List ℕ) → IsEndRow x → kind_flags x < 2
+unfolding kind_flags
+most_kinds x row = by (h x 4) (h x 5) (h x 6) (h x 7) row.most
+  where
+    by : (i j k l : ℕ) → i + j + k + l ≤ 1 → felt_add (felt_add (felt_add i j) k) l < 2
+    by i j k l most = omega arith
+
+-- what the END of an entered loop shows
+stops_at : (i k : ℕ) → (i ≡ 0) ⊎ (k ≡ 0) → i ≡ 1 → k ≡ 0
+stops_at i k (inl z) one_is = absurd (omega arith)
+stops_at i k (inr z) one_is = z
+
+stops_or : (i k : ℕ) → i < 2 → (i ≡ 1 → k ≡ 0) → (i ≡ 0) ⊎ (k ≡ 0)
+stops_or zero k low h = inl refl
+stops_or (suc zero) k low h = inr (h refl)
+stops_or (suc (suc i)) k low h = absurd (omega arith)
+
+conditions_of : (op : Op) (x : List ℕ) → IsBlockRow op x → Conditions op x
+conditions_of op x row = record {
+  condition = row.condition;
+  again = row.again;
+  stops = λ is. stops_or (h x 4) (s x 0) ((row.ends is).bits 0 (lit< tt)) (row.ends is).stops;
+}
+
+shown_means : (op : Op) (p : Spot) → HasOps op p → Conditions op p.cur → Means (shown_values p) (IsBlockRow op p.cur)
+unfolding shown_values entry_70 entry_74 entry_75 entry_79 entry_80 entry_81
+shown_means op p r c =
+    means_as
+    (each 4 (λ j few. row_at (entry_70 j) r (gate_bit refl (r.here.low (16 + (4 + j)))))
+    ⧺ row_at entry_74 r (gate_bit refl (kinds_low p.cur))
+    ▸ each 4 (λ j few. row_at (entry_75 j) r (gate (singles_is op) (zero_says (r.here.low (16 + (4 + j))))))
+    ⧺ row_at entry_79 r (gate (calls_is op) (zero_says (r.here.low 3))) ▸ row_at entry_80 r (gate refl (sub_says (lit< tt) (r.here.low 3)))
+    ▸ row_at entry_81 r (gate refl (zero_says (r.here.low 8))) ▸ nothing)
+    (λ (bits, (kinds, (none, (outside, (inside, (closed, done)))))). record {
+      condition = c.condition;
+      again = c.again;
+      ends = λ is. record {
+        bits = λ j few. bits j few is;
+        most = few_kinds p.cur (λ j few. bits j few is) (kinds is);
+        stops = stops_at (h p.cur 4) (s p.cur 0) (c.stops is);
+      };
+      single = λ is j few. none j few is;
+      outside = outside;
+      inside = λ is. sym (inside is);
+      closed = closed;
+    })
+    (λ row. (λ j few is. (row.ends is).bits j few) & (λ is. most_kinds p.cur (row.ends is)) & (λ j few is. row.single is j few) & row.outside
+    & (λ is. sym (row.inside is)) & row.closed & tt)
 
 -- ---- the row behind it
 
 one_call : (op : Op) → is_op op ops.Call && is_op op ops.Syscall ≡ false
 one_call ops.Call = refl
 one_call op = refl
-
-stays_or_calls : (t u r : Bool) → (t || u) && not ((t || u) || r) ≡ false
-stays_or_calls true u r = refl
-stays_or_calls false true r = refl
-stays_or_calls false false r = refl
-
-pub says_82 : (op next : Op) (x y : List ℕ) → Low x → Low y → (is_op op ops.End ≡ true → IsEndRow x)
-    → Says (entry_82 (hot op) (hot next) x y)
-    ((is_op op ops.Call ≡ true → ctx y ≡ felt_add (clk x) 1) × (is_op op ops.Syscall ≡ true → ctx y ≡ 0)
-    × (stays_in_function op x ≡ true → ctx y ≡ ctx x))
-unfolding entry_82
-says_82 op next x y low low_next ends =
-    says_of
-    (ap (λ n. felt_add (felt_add (felt_mul (hot op ops.Call) (felt_sub (felt_sub (ctx y) (clk x)) 1)) (felt_mul (hot op ops.Syscall) (ctx y)))
-    (felt_mul n (felt_sub (ctx y) (ctx x))))
-    (inside_is op x ends))
-    (three_say (is_op op ops.Call) (is_op op ops.Syscall) (stays_in_function op x) (one_call op)
-    (stays_or_calls (is_op op ops.Call) (is_op op ops.Syscall) (ends_call op x))
-    (sub_twice_says (ctx y) (clk x) 1 (low_next 2) (low 0) (lit< tt)) (zero_says (ctx y) (low_next 2))
-    (sub_says (ctx y) (ctx x) (low_next 2) (low 2)))
 
 update_or_call : (op : Op) → is_call_op op && is_op op ops.FmpUpdate ≡ false
 update_or_call ops.Call = refl
@@ -196,66 +149,12 @@ moves_or_keeps false true false = refl
 moves_or_keeps false false true = refl
 moves_or_keeps false false false = refl
 
-pub says_83 : (op next : Op) (x y : List ℕ) → Low x → Low y → (is_op op ops.End ≡ true → IsEndRow x)
-    → Says (entry_83 (hot op) (hot next) x y)
-    ((is_op op ops.Call ≡ true → fmp y ≡ 2 ^ 30) × (is_op op ops.Syscall ≡ true → fmp y ≡ 2 ^ 31)
-    × (is_op op ops.FmpUpdate ≡ true → fmp y ≡ felt_add (fmp x) (s x 0))
-    × (keeps_frame op x ≡ true → fmp y ≡ fmp x))
-unfolding entry_83
-says_83 op next x y low low_next ends =
-    says_of
-    (ap (λ n. felt_add (felt_add (felt_add (felt_mul (hot op ops.Call) (felt_sub (fmp y) (2 ^ 30)))
-    (felt_mul (hot op ops.Syscall) (felt_sub (fmp y) (2 ^ 31))))
-    (felt_mul (hot op ops.FmpUpdate) (felt_sub (felt_sub (fmp y) (fmp x)) (s x 0)))) (felt_mul n (felt_sub (fmp y) (fmp x)))) (frame_is op x ends))
-    (four_say (is_op op ops.Call) (is_op op ops.Syscall) (is_op op ops.FmpUpdate) (keeps_frame op x) (one_call op) (update_or_call op)
-    (moves_or_keeps (is_call_op op) (ends_call op x) (is_op op ops.FmpUpdate))
-    (sub_says (fmp y) (2 ^ 30) (low_next 1) (lit< tt)) (sub_says (fmp y) (2 ^ 31) (low_next 1) (lit< tt))
-    (sub_twice_says (fmp y) (fmp x) (s x 0) (low_next 1) (low 1) (low 30)) (sub_says (fmp y) (fmp x) (low_next 1) (low 1)))
-
-pub says_84 : (op next : Op) (x y : List ℕ) → Low x → Low y → (is_op op ops.End ≡ true → IsEndRow x)
-    → Says (entry_84 (hot op) (hot next) x y)
-    ((is_op op ops.Call ≡ true → sys y ≡ 0) × (is_op op ops.Syscall ≡ true → sys y ≡ 1) × (stays_in_function op x ≡ true → sys y ≡ sys x))
-unfolding entry_84
-says_84 op next x y low low_next ends =
-    says_of
-    (ap (λ n. felt_add (felt_add (felt_mul (hot op ops.Call) (sys y)) (felt_mul (hot op ops.Syscall) (felt_sub (sys y) 1)))
-    (felt_mul n (felt_sub (sys y) (sys x))))
-    (inside_is op x ends))
-    (three_say (is_op op ops.Call) (is_op op ops.Syscall) (stays_in_function op x) (one_call op)
-    (stays_or_calls (is_op op ops.Call) (is_op op ops.Syscall) (ends_call op x))
-    (zero_says (sys y) (low_next 3)) (sub_says (sys y) 1 (low_next 3) (lit< tt)) (sub_says (sys y) (sys x) (low_next 3) (low 3)))
-
-call_or_kept : (t r : Bool) → t && not (t || r) ≡ false
-call_or_kept true r = refl
-call_or_kept false r = refl
-
-pub says_85 : (op next : Op) (x y : List ℕ) (j : ℕ) → Low x → Low y → (is_op op ops.End ≡ true → IsEndRow x)
-    → Says (entry_85 j (hot op) (hot next) x y) ((is_op op ops.Call ≡ true → f y j ≡ h x j) × (keeps_digest op x ≡ true → f y j ≡ f x j))
-unfolding entry_85
-says_85 op next x y j low low_next ends =
-    says_of (ap (λ n. felt_add (felt_mul (hot op ops.Call) (felt_sub (f y j) (h x j))) (felt_mul n (felt_sub (f y j) (f x j)))) (digest_is op x ends))
-    (two_say (is_op op ops.Call) (keeps_digest op x) (call_or_kept (is_op op ops.Call) (ends_call op x))
-    (sub_says (f y j) (h x j) (low_next (4 + j)) (low (16 + j))) (sub_says (f y j) (f x j) (low_next (4 + j)) (low (4 + j))))
-
-pub says_89 : (op next : Op) (x y : List ℕ) → Low x → Low y → Says (entry_89 (hot op) (hot next) x y) (keeps_block op ≡ true → addr y ≡ addr x)
-unfolding entry_89
-says_89 op next x y low low_next =
-    says_of (ap (λ n. felt_mul n (felt_sub (addr y) (addr x))) (block_is op))
-    (gate_says (keeps_block op) (sub_says (addr y) (addr x) (low_next 8) (low 8)))
-
-level_says : (t u : Bool) (i k : ℕ) → t && u ≡ false → i < prime → k < prime
-    → Says (felt_add (felt_sub (felt_sub i k) (cond t 1 0)) (cond u 1 0)) (i ≡ cond t (felt_add k 1) (cond u (felt_sub k 1) k))
-level_says true true i k apart li lk = never apart
-level_says true false i k apart li lk = record { low = rest_low _; shown = λ z. omega (arith, li, lk, z); zero_where = λ e. omega (arith, li, lk, e) }
-level_says false true i k apart li lk = record { low = rest_low _; shown = λ z. omega (arith, li, lk, z); zero_where = λ e. omega (arith, li, lk, e) }
-level_says false false i k apart li lk =
-    record { low = rest_low _; shown = λ z. omega (arith, li, lk, z); zero_where = λ e. omega (arith, li, lk, e) }
-
-pub says_90 : (op next : Op) (x y : List ℕ) → Low x → Low y → Says (entry_90 (hot op) (hot next) x y) (lv y ≡ level_after op (lv x))
-unfolding entry_90
-says_90 op next x y low low_next =
-    says_of (ap (λ n. felt_add (felt_sub (felt_sub (lv y) (lv x)) n) (hot op ops.End)) (starts_is op))
-    (level_says (is_start_op op) (is_op op ops.End) (lv y) (lv x) (start_or_end op) (low_next 50) (low 50))
+level_says : {i k f : ℕ} (t u : Bool) → f ≡ cond t 1 0 → t && u ≡ false → i < prime → k < prime
+    → Says (felt_add (felt_sub (felt_sub i k) f) (cond u 1 0)) (i ≡ cond t (felt_add k 1) (cond u (felt_sub k 1) k))
+level_says true true e apart li lk = never apart
+level_says true false e apart li lk = rest_says _ (λ z. omega arith) (λ k. omega arith)
+level_says false true e apart li lk = rest_says _ (λ z. omega arith) (λ k. omega arith)
+level_says false false e apart li lk = rest_says _ (λ z. omega arith) (λ k. omega arith)
 
 one_batch : (op : Op) → is_op op ops.Span && is_op op ops.Respan ≡ false
 one_batch ops.Span = refl
@@ -265,14 +164,65 @@ batch_or_ordinary : (op : Op) → is_batch_op op && is_ordinary_op op ≡ false
 batch_or_ordinary ops.Span = refl
 batch_or_ordinary op = refl
 
-pub says_91 : (op next : Op) (x y : List ℕ) → Low x → Low y → sp x ≡ cond (is_ordinary_op op) 1 0
-    → Says (entry_91 (hot op) (hot next) x y)
-    ((is_op op ops.Span ≡ true → ha y ≡ addr y) × (is_op op ops.Respan ≡ true → ha y ≡ felt_add (ha x) 8) × (is_ordinary_op op ≡ true → ha y ≡ ha x))
-unfolding entry_91
-says_91 op next x y low low_next span =
-    says_of
-    (ap (λ n. felt_add (felt_add (felt_mul (hot op ops.Span) (felt_sub (ha y) (addr y)))
-    (felt_mul (hot op ops.Respan) (felt_sub (felt_sub (ha y) (ha x)) 8))) (felt_mul n (felt_sub (ha y) (ha x)))) span)
-    (three_say (is_op op ops.Span) (is_op op ops.Respan) (is_ordinary_op op) (one_batch op) (batch_or_ordinary op)
-    (sub_says (ha y) (addr y) (low_next 49) (low_next 8)) (sub_twice_says (ha y) (ha x) 8 (low_next 49) (low 49) (lit< tt))
-    (sub_says (ha y) (ha x) (low_next 49) (low 49)))
+kept_means : (op : Op) (p : Spot) → HasOps op p → IsBlockRow op p.cur
+    → Means (kept_values p) (Behind p (λ y. KeepsBlock op p.cur y) × Behind p (λ y. KeepsBatch op p.cur y))
+unfolding kept_values entry_82 entry_83 entry_84 entry_85 entry_89 entry_90 entry_91
+kept_means op p r row =
+    means_as
+    (pair_at entry_82 r (λ y n.
+    both_say (both (one refl (sub_twice_says {k = 1} (n.low 2) (low 0) (lit< tt))) (one refl (zero_says (n.low 2))) (one_call op))
+    (one inside (sub_says (n.low 2) (low 2))) (any_or_none _ _))
+    ▸ pair_at entry_83 r (λ y n.
+    both_say (both (both (one refl (sub_says {b = 2 ^ 30} (n.low 1) (lit< tt))) (one refl (sub_says {b = 2 ^ 31} (n.low 1) (lit< tt))) (one_call op))
+    (one refl (sub_twice_says (n.low 1) (low 1) (low 30))) (update_or_call op))
+    (one (frame_is op p.cur row.ends) (sub_says (n.low 1) (low 1))) (moves_or_keeps (is_call_op op) _ _))
+    ▸ pair_at entry_84 r (λ y n.
+    both_say (both (one refl (zero_says (n.low 3))) (one refl (sub_says {b = 1} (n.low 3) (lit< tt))) (one_call op))
+    (one inside (sub_says (n.low 3) (low 3))) (any_or_none _ _))
+    ▸ each 4 (λ j few. pair_at (entry_85 j) r (λ y n.
+    both_say (one refl (sub_says (n.low (4 + j)) (low (16 + j)))) (one (digest_is op p.cur row.ends) (sub_says (n.low (4 + j)) (low (4 + j))))
+    (any_or_none _ _)))
+    ⧺ pair_at entry_89 r (λ y n. gate (block_is op) (sub_says (n.low 8) (low 8)))
+    ▸ pair_at entry_90 r (λ y n. level_says (is_start_op op) (is_op op ops.End) (starts_is op) (start_or_end op) (n.low 50) (low 50))
+    ▸ pair_at entry_91 r (λ y n.
+    both_say (both (one refl (sub_says (n.low 49) (n.low 8))) (one refl (sub_twice_says {k = 8} (n.low 49) (low 49) (lit< tt))) (one_batch op))
+    (one r.here.span (sub_says (n.low 49) (low 49))) (batch_or_ordinary op)) ▸ nothing)
+    (λ (context, (frame, (syscall, (digest, (block, (level, (batch, done))))))). (
+      λ y e. record {
+        call = λ is. record {
+          context = (context y e).0.0 is;
+          frame = (frame y e).0.0.0 is;
+          syscall = (syscall y e).0.0 is;
+          digest = λ j few. (digest j few y e).0 is;
+        };
+        syscall = λ is. record { context = (context y e).0.1 is; frame = (frame y e).0.0.1 is; syscall = (syscall y e).0.1 is };
+        function = λ is. ((context y e).1 is, (syscall y e).1 is);
+        digest = λ is j few. (digest j few y e).1 is;
+        frame = (frame y e).1;
+        frame_moves = (frame y e).0.1;
+        block = block y e;
+        level = level y e;
+      },
+      λ y e. record { first = (batch y e).0.0; later = (batch y e).0.1; same = (batch y e).1 },
+    ))
+    (λ (keeps, batch).
+    (λ y e. ((λ is. ((keeps y e).call is).context, λ is. ((keeps y e).syscall is).context), λ is. ((keeps y e).function is).0))
+    & (λ y e. (((λ is. ((keeps y e).call is).frame, λ is. ((keeps y e).syscall is).frame), (keeps y e).frame_moves), (keeps y e).frame))
+    & (λ y e. ((λ is. ((keeps y e).call is).syscall, λ is. ((keeps y e).syscall is).syscall), λ is. ((keeps y e).function is).1))
+    & (λ j few y e. (λ is. ((keeps y e).call is).digest j few, λ is. (keeps y e).digest is j few)) & (λ y e. (keeps y e).block)
+    & (λ y e. (keeps y e).level) & (λ y e. (((batch y e).first, (batch y e).later), (batch y e).same)) & tt)
+  where
+    low : Low p.cur
+    low = r.here.low
+
+    inside : stays_inside (hot op) p.cur ≡ cond (stays_in_function op p.cur) 1 0
+    inside = inside_is op p.cur row.ends
+
+-- all entries on blocks
+pub block_means : (op : Op) (p : Spot) → HasOps op p
+    → Means (block_values p) (IsBlockRow op p.cur × Behind p (λ y. may_follow op (s p.cur 0) (op_of y) ≡ true)
+    × Behind p (λ y. KeepsBlock op p.cur y) × Behind p (λ y. KeepsBatch op p.cur y))
+unfolding block_values
+block_means op p r =
+    means_as (part_then (follow_means op p r) (λ c. part_then (shown_means op p r c.0) (kept_means op p r)))
+    (λ h. (h.1.0, h.0.1, h.1.1.0, h.1.1.1)) (λ h. ((conditions_of op p.cur h.0, h.1), (h.0, (h.2, h.3))))

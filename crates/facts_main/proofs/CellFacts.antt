@@ -2,13 +2,14 @@
 use Rattle.facts_main.proofs.Words.{◌≡◌, ℕ, zero, suc, ◌+◌, ◌-◌, ◌%◌, ◌<◌, Bool, true, false, ◌&&◌, not, cond, eqb, nat_lt, List, [], ◌∷◌, ◌++◌, take, drop}
 use Rattle.facts_main.proofs.Words.{slice_index, refl, sym, ap, ◌∙◌, arith, lit<, eqb-true, nat_tests, prime, felt_add, felt_sub, felt_mul, AreElements}
 use Rattle.facts_main.proofs.Words.{left_cells, Op, h, s, depth, w, is_op, is_left, sum_over, sum_over-hot, IsEndRow, tests_top}
-use Rattle.vm_field.proofs.Elements.{elements-append, elements-cons, elements-drop, elements-index, elements-none, elements-one, elements-picked, elements-reverse, elements-take, elements-cond}
+use Rattle.vm_field.proofs.Elements.{elements-append, elements-cons, elements-drop, elements-index, elements-none, elements-one, elements-picked, elements-reverse, elements-take, elements-two, elements-cond}
 use Rattle.vm_ops.specs.Moves.{takes_of, leaves_of, sources_of}
 use Rattle.vm_ops.specs.Values.{bit_of, computed}
 use Rattle.vm_ops.specs.declared.op.Op.TheVariants as ops
 use Rattle.air_kit.specs.StackValues.{cells, function_digest, seen_of, is_free, chosen, chosen_not, word_term, left_value, top_term, below_term, end_term, term, entry_119}
-use Rattle.facts_main.proofs.Says.{Says, says_of, says_as, off, never, rest_low, zero_says, sub_says, gate_says, two_say}
+use Rattle.facts_main.proofs.Says.{Says, says_of, says_as, off, never, rest_low, rest_says, zero_says, sub_says, gate, one, both_say, bit_is, less_one, eqb_of}
 use Rattle.facts_main.proofs.Hot.{hot, one_hot_is}
+use Rattle.facts_main.proofs.Means.{◌&◌}
 use Rattle.facts_main.proofs.BlockFacts.{Low}
 use Rattle.facts_main.proofs.DepthFacts.{Witness, flat_is}
 
@@ -27,81 +28,66 @@ pub elements_each : (xs : List ℕ) → EachLow xs → AreElements xs
 elements_each [] each = elements-none
 elements_each (v ∷ vs) each = elements-cons v vs each.0 (elements_each vs each.1)
 
-elements_cells : (x : List ℕ) → Low x → AreElements (cells x)
-unfolding cells
-elements_cells x low = elements_each (cells x) (
-  low 30,
-  (
-    low 31,
-    (
-      low 32,
-      (low 33, (low 34, (low 35, (low 36, (low 37, (low 38, (low 39, (low 40, (low 41, (low 42, (low 43, (low 44, (low 45, tt))))))))))))),
-    ),
-  ),
-)
+module _ (x : List ℕ) (low : Low x) where
+  elements_cells : AreElements (cells x)
+  unfolding cells
+  elements_cells = elements_each (cells x)
+      (low 30 & low 31 & low 32 & low 33 & low 34 & low 35 & low 36 & low 37 & low 38 & low 39 & low 40 & low 41 & low 42 & low 43 & low 44 & low 45 & tt)
 
-elements_digest : (x : List ℕ) → Low x → AreElements (function_digest x)
-unfolding function_digest
-elements_digest x low = elements_each (function_digest x) (low 4, (low 5, (low 6, (low 7, tt))))
+  elements_digest : AreElements (function_digest x)
+  unfolding function_digest
+  elements_digest = elements_each (function_digest x) (low 4 & low 5 & low 6 & low 7 & tt)
 
-elements_computed : (op : Op) (x : List ℕ) → Low x → is_free op ≡ false → is_op op ops.Inv ≡ false → AreElements (computed op (seen_of x))
-unfolding computed seen_of
-elements_computed ops.Eqz x low free out = elements-one _ (bit_low (eqb (slice_index (cells x) 0) 0))
-elements_computed ops.Neg x low free out = elements-one _ (rest_low _)
-elements_computed ops.Inv x low free out = never out
-elements_computed ops.Incr x low free out = elements-one _ (rest_low _)
-elements_computed ops.Not x low free out = elements-one _ (rest_low _)
-elements_computed ops.FmpAdd x low free out = elements-one _ (rest_low _)
-elements_computed ops.MLoad x low free out = never free
-elements_computed ops.Caller x low free out = elements-reverse (function_digest x) (elements_digest x low)
-elements_computed ops.AdvPopW x low free out = never free
-elements_computed ops.HPerm x low free out = never free
-elements_computed ops.U32Add x low free out = never free
-elements_computed ops.U32Sub x low free out = never free
-elements_computed ops.U32Mul x low free out = never free
-elements_computed ops.U32Div x low free out = never free
-elements_computed ops.Eq x low free out = elements-one _ (bit_low (eqb (slice_index (cells x) 0) (slice_index (cells x) 1)))
-elements_computed ops.Add x low free out = elements-one _ (rest_low _)
-elements_computed ops.Mul x low free out = elements-one _ (rest_low _)
-elements_computed ops.And x low free out = elements-one _ (rest_low _)
-elements_computed ops.Or x low free out = elements-one _ (rest_low _)
-elements_computed ops.U32And x low free out = never free
-elements_computed ops.U32Xor x low free out = never free
-elements_computed ops.CSwap x low free out =
-    elements-cond (eqb (slice_index (cells x) 0) 0) (slice_index (cells x) 1 ∷ slice_index (cells x) 2 ∷ [])
-    (slice_index (cells x) 2 ∷ slice_index (cells x) 1 ∷ [])
-    (elements-cons (slice_index (cells x) 1) (slice_index (cells x) 2 ∷ []) (elements-index (cells x) 1 (elements_cells x low))
-    (elements-one (slice_index (cells x) 2) (elements-index (cells x) 2 (elements_cells x low))))
-    (elements-cons (slice_index (cells x) 2) (slice_index (cells x) 1 ∷ []) (elements-index (cells x) 2 (elements_cells x low))
-    (elements-one (slice_index (cells x) 1) (elements-index (cells x) 1 (elements_cells x low))))
-elements_computed ops.CSwapW x low free out =
-    elements-cond (eqb (slice_index (cells x) 0) 0) (take 8 (drop 1 (cells x))) (take 4 (drop 5 (cells x)) ++ take 4 (drop 1 (cells x)))
-    (elements-take 8 (drop 1 (cells x)) (elements-drop 1 (cells x) (elements_cells x low)))
-    (elements-append (take 4 (drop 5 (cells x))) (take 4 (drop 1 (cells x)))
-    (elements-take 4 (drop 5 (cells x)) (elements-drop 5 (cells x) (elements_cells x low)))
-    (elements-take 4 (drop 1 (cells x)) (elements-drop 1 (cells x) (elements_cells x low))))
-elements_computed ops.MLoadW x low free out = never free
-elements_computed ops.U32Add3 x low free out = never free
-elements_computed ops.U32MAdd x low free out = never free
-elements_computed ops.Pad x low free out = elements-one 0 (lit< tt)
-elements_computed ops.AdvPop x low free out = never free
-elements_computed ops.SDepth x low free out = elements-one _ (rest_low _)
-elements_computed ops.Clk x low free out = elements-one _ (rest_low _)
-elements_computed ops.U32Split x low free out = never free
-elements_computed ops.Push x low free out = never free
-elements_computed ops.Noop x low free out = elements-none
-elements_computed op x low free out = elements-none
+  computed_low : (op : Op) → is_free op ≡ false → is_op op ops.Inv ≡ false → AreElements (computed op (seen_of x))
+  unfolding computed seen_of
+  computed_low ops.Eqz free out = elements-one _ (bit_low (eqb (slice_index (cells x) 0) 0))
+  computed_low ops.Neg free out = elements-one _ (rest_low _)
+  computed_low ops.Inv free out = never out
+  computed_low ops.Incr free out = elements-one _ (rest_low _)
+  computed_low ops.Not free out = elements-one _ (rest_low _)
+  computed_low ops.FmpAdd free out = elements-one _ (rest_low _)
+  computed_low ops.MLoad free out = never free
+  computed_low ops.Caller free out = elements-reverse (function_digest x) elements_digest
+  computed_low ops.AdvPopW free out = never free
+  computed_low ops.HPerm free out = never free
+  computed_low ops.U32Add free out = never free
+  computed_low ops.U32Sub free out = never free
+  computed_low ops.U32Mul free out = never free
+  computed_low ops.U32Div free out = never free
+  computed_low ops.Eq free out = elements-one _ (bit_low (eqb (slice_index (cells x) 0) (slice_index (cells x) 1)))
+  computed_low ops.Add free out = elements-one _ (rest_low _)
+  computed_low ops.Mul free out = elements-one _ (rest_low _)
+  computed_low ops.And free out = elements-one _ (rest_low _)
+  computed_low ops.Or free out = elements-one _ (rest_low _)
+  computed_low ops.U32And free out = never free
+  computed_low ops.U32Xor free out = never free
+  computed_low ops.CSwap free out =
+      let cell : (j : ℕ) → slice_index (cells x) j < prime = λ j. elements-index (cells x) j elements_cells in
+      elements-cond (eqb (slice_index (cells x) 0) 0) _ _ (elements-two _ _ (cell 1) (cell 2)) (elements-two _ _ (cell 2) (cell 1))
+  computed_low ops.CSwapW free out =
+      let word : (j : ℕ) → AreElements (take 4 (drop j (cells x))) = λ j. elements-take 4 _ (elements-drop j (cells x) elements_cells) in
+      elements-cond (eqb (slice_index (cells x) 0) 0) _ _ (elements-take 8 _ (elements-drop 1 (cells x) elements_cells))
+      (elements-append _ _ (word 5) (word 1))
+  computed_low ops.MLoadW free out = never free
+  computed_low ops.U32Add3 free out = never free
+  computed_low ops.U32MAdd free out = never free
+  computed_low ops.Pad free out = elements-one 0 (lit< tt)
+  computed_low ops.AdvPop free out = never free
+  computed_low ops.SDepth free out = elements-one _ (rest_low _)
+  computed_low ops.Clk free out = elements-one _ (rest_low _)
+  computed_low ops.U32Split free out = never free
+  computed_low ops.Push free out = never free
+  computed_low op free out = elements-none
 
-left_low : (op : Op) (x : List ℕ) (j : ℕ) → Low x → is_free op ≡ false → is_op op ops.Inv ≡ false → left_value op j x < prime
-unfolding left_value left_cells seen_of
-left_low op x j low free out =
-    elements-index (left_cells op (seen_of x)) j
-    (elements-append (computed op (seen_of x)) _ (elements_computed op x low free out)
-    (elements-picked (cells x) (sources_of op) (elements_cells x low)))
+  left_low : (op : Op) (j : ℕ) → is_free op ≡ false → is_op op ops.Inv ≡ false → left_value op j x < prime
+  unfolding left_value left_cells seen_of
+  left_low op j free out =
+      elements-index (left_cells op (seen_of x)) j
+      (elements-append (computed op (seen_of x)) _ (computed_low op free out) (elements-picked (cells x) (sources_of op) elements_cells))
 
 -- ---- a value by cases
 
-pub cases_say : {v u : ℕ} {P Q : Type 0} (t : Bool) → (t ≡ true → Says v P) → (t ≡ false → Says u Q)
+cases_say : {v u : ℕ} {P Q : Type 0} (t : Bool) → (t ≡ true → Says v P) → (t ≡ false → Says u Q)
     → Says (cond t v u) ((t ≡ true → P) × (t ≡ false → Q))
 cases_say true a b =
     let s = a refl in
@@ -125,19 +111,19 @@ TopFact ops.Eq j x y = felt_add (s y 0) (felt_mul (felt_sub (s x 0) (s x 1)) (w 
 TopFact ops.Inv j x y = felt_mul (s x 0) (s y 0) ≡ 1
 TopFact op j x y = is_free op ≡ false → s y j ≡ left_value op j x
 
-sum_one_says : (i k : ℕ) → i < prime → k < prime → Says (felt_add (felt_sub i 1) k) (felt_add i k ≡ 1)
-sum_one_says i k li lk = record { low = rest_low _; shown = λ z. omega (arith, li, lk, z); zero_where = λ e. omega (arith, li, lk, e) }
+sum_one_says : {i k : ℕ} → i < prime → k < prime → Says (felt_add (felt_sub i 1) k) (felt_add i k ≡ 1)
+sum_one_says li lk = rest_says _ (λ z. omega arith) (λ e. omega arith)
 
 -- what a condition chooses
 chosen_is : (t i k : ℕ) → t < 2 → i < prime → k < prime → chosen t i k ≡ cond (eqb t 0) i k
-chosen_is zero i k few li lk = omega (arith, li, lk)
-chosen_is (suc zero) i k few li lk = omega (arith, li, lk)
-chosen_is (suc (suc t)) i k few li lk = absurd (omega (arith, few))
+chosen_is zero i k few li lk = omega arith
+chosen_is (suc zero) i k few li lk = omega arith
+chosen_is (suc (suc t)) i k few li lk = absurd (omega arith)
 
 chosen_not_is : (t i k : ℕ) → t < 2 → i < prime → k < prime → chosen_not t i k ≡ cond (eqb t 0) k i
-chosen_not_is zero i k few li lk = omega (arith, li, lk)
-chosen_not_is (suc zero) i k few li lk = omega (arith, li, lk)
-chosen_not_is (suc (suc t)) i k few li lk = absurd (omega (arith, few))
+chosen_not_is zero i k few li lk = omega arith
+chosen_not_is (suc zero) i k few li lk = omega arith
+chosen_not_is (suc (suc t)) i k few li lk = absurd (omega arith)
 
 first_of_two : (t : Bool) (i k : ℕ) → slice_index (cond t (i ∷ k ∷ []) (k ∷ i ∷ []) ++ []) 0 ≡ cond t i k
 first_of_two true i k = refl
@@ -162,23 +148,9 @@ word_cell t x j = cond t (s x (j + 1)) (cond (nat_lt j 4) (s x (j + 5)) (s x (j 
 word_left : (t : Bool) (x : List ℕ) (j : ℕ) → j < 8
     → slice_index (cond t (take 8 (drop 1 (cells x))) (take 4 (drop 5 (cells x)) ++ take 4 (drop 1 (cells x))) ++ []) j ≡ word_cell t x j
 unfolding cells
-word_left true x zero few = refl
-word_left false x zero few = refl
-word_left true x (suc zero) few = refl
-word_left false x (suc zero) few = refl
-word_left true x (suc (suc zero)) few = refl
-word_left false x (suc (suc zero)) few = refl
-word_left true x (suc (suc (suc zero))) few = refl
-word_left false x (suc (suc (suc zero))) few = refl
-word_left true x (suc (suc (suc (suc zero)))) few = refl
-word_left false x (suc (suc (suc (suc zero)))) few = refl
-word_left true x (suc (suc (suc (suc (suc zero))))) few = refl
-word_left false x (suc (suc (suc (suc (suc zero))))) few = refl
-word_left true x (suc (suc (suc (suc (suc (suc zero)))))) few = refl
-word_left false x (suc (suc (suc (suc (suc (suc zero)))))) few = refl
-word_left true x (suc (suc (suc (suc (suc (suc (suc zero))))))) few = refl
-word_left false x (suc (suc (suc (suc (suc (suc (suc zero))))))) few = refl
-word_left t x (suc (suc (suc (suc (suc (suc (suc (suc j)))))))) few = absurd (omega (arith, few))
+word_left true x (suc (suc (suc (suc (suc (suc (suc (suc j)))))))) few = absurd (omega arith)
+word_left false x (suc (suc (suc (suc (suc (suc (suc (suc j)))))))) few = absurd (omega arith)
+word_left t x j few = refl
 
 cswapw_cell : (x : List ℕ) (j : ℕ) → j < 8 → left_value ops.CSwapW j x ≡ word_cell (eqb (s x 0) 0) x j
 unfolding left_value left_cells computed seen_of cells
@@ -196,29 +168,30 @@ word_is j x y low few = go (nat_lt j 4)
 same_says : {v : ℕ} {P : Type 0} → Says v P → Says v (false ≡ false → P)
 same_says a = says_as a (λ e _. e) (λ f. f refl)
 
+-- what the value of a cell is, where it is an element
+leaves_says : (op : Op) (j : ℕ) (x y : List ℕ) → Low x → Low y → is_free op ≡ false → is_op op ops.Inv ≡ false
+    → Says (felt_sub (s y j) (left_value op j x)) (s y j ≡ left_value op j x)
+leaves_says op j x y low low_next free out = sub_says (low_next (30 + j)) (left_low x low op j free out)
+
 top_says : (op : Op) (j : ℕ) (x y : List ℕ) → j < leaves_of op → Low x → Low y → (tests_top op ≡ true → s x 0 < 2)
     → Says (top_term j x y op) (TopFact op j x y)
 unfolding top_term
-top_says ops.Eqz j x y few low low_next bit = sum_one_says (s y 0) (felt_mul (s x 0) (w x 0)) (low_next 30) (rest_low _)
-top_says ops.Eq j x y few low low_next bit = sum_one_says (s y 0) (felt_mul (felt_sub (s x 0) (s x 1)) (w x 0)) (low_next 30) (rest_low _)
-top_says ops.Inv j x y few low low_next bit = sub_says (felt_mul (s x 0) (s y 0)) 1 (rest_low _) (lit< tt)
+top_says ops.Eqz j x y few low low_next bit = sum_one_says (low_next 30) (rest_low _)
+top_says ops.Eq j x y few low low_next bit = sum_one_says (low_next 30) (rest_low _)
+top_says ops.Inv j x y few low low_next bit = sub_says (rest_low _) (lit< tt)
 top_says ops.CSwap zero x y few low low_next bit =
     same_says
     (says_of (ap (felt_sub (s y 0)) (chosen_is (s x 0) (s x 1) (s x 2) (bit refl) (low 31) (low 32) ∙ sym (cswap_first x)))
-    (sub_says (s y 0) (left_value ops.CSwap 0 x) (low_next 30) (left_low ops.CSwap x 0 low refl refl)))
+    (leaves_says ops.CSwap 0 x y low low_next refl refl))
 top_says ops.CSwap (suc zero) x y few low low_next bit =
     same_says
     (says_of (ap (felt_sub (s y 1)) (chosen_not_is (s x 0) (s x 1) (s x 2) (bit refl) (low 31) (low 32) ∙ sym (cswap_second x)))
-    (sub_says (s y 1) (left_value ops.CSwap 1 x) (low_next 31) (left_low ops.CSwap x 1 low refl refl)))
-top_says ops.CSwap (suc (suc j)) x y few low low_next bit = absurd (omega (arith, few))
+    (leaves_says ops.CSwap 1 x y low low_next refl refl))
+top_says ops.CSwap (suc (suc j)) x y few low low_next bit = absurd (omega arith)
 top_says ops.CSwapW j x y few low low_next bit =
     same_says
-    (says_of (word_is j x y low (bit refl) ∙ ap (felt_sub (s y j)) (sym (cswapw_cell x j few)))
-    (sub_says (s y j) (left_value ops.CSwapW j x) (low_next (30 + j)) (left_low ops.CSwapW x j low refl refl)))
-top_says ops.Noop j x y few low low_next bit =
-    free_says (is_free ops.Noop) (λ free. sub_says (s y j) (left_value ops.Noop j x) (low_next (30 + j)) (left_low ops.Noop x j low free refl))
-top_says op j x y few low low_next bit =
-    free_says (is_free op) (λ free. sub_says (s y j) (left_value op j x) (low_next (30 + j)) (left_low op x j low free refl))
+    (says_of (word_is j x y low (bit refl) ∙ ap (felt_sub (s y j)) (sym (cswapw_cell x j few))) (leaves_says ops.CSwapW j x y low low_next refl refl))
+top_says op j x y few low low_next bit = free_says (is_free op) (λ free. leaves_says op j x y low low_next free refl)
 
 -- ---- the cells below them
 
@@ -226,29 +199,15 @@ abbrev pub BelowFact : Op → ℕ → List ℕ → List ℕ → Type 0
 BelowFact op j x y =
     (is_left op && eqb j 15 ≡ true → depth x ≡ 16 → s y 15 ≡ 0) × (is_left op && eqb j 15 ≡ false → s y j ≡ s x (j + takes_of op - leaves_of op))
 
-pub eqb_of : (i k : ℕ) → i ≡ k → eqb i k ≡ true
-eqb_of i k e = grind (arith, nat_tests)
-
 below_says : (op : Op) (j : ℕ) (x y : List ℕ) → Low x → Low y → Witness x → Says (below_term j x y op) (BelowFact op j x y)
 unfolding below_term
 below_says op j x y low low_next witness =
     cases_say (is_left op && eqb j 15)
-    (λ is. says_as (says_of (ap (λ n. felt_mul n (s y 15)) (flat_is x low witness)) (gate_says (eqb (depth x) 16) (zero_says (s y 15) (low_next 45))))
-    (λ f e. f (eqb_of (depth x) 16 e)) (λ f e. f (eqb-true (depth x) 16 e)))
-    (λ other. sub_says (s y j) (s x (j + takes_of op - leaves_of op)) (low_next (30 + j)) (low (30 + (j + takes_of op - leaves_of op))))
+    (λ is. says_as (gate (flat_is x low witness) (zero_says (low_next 45))) (λ f e. f (eqb_of (depth x) 16 e)) (λ f e. f (eqb-true (depth x) 16 e)))
+    (λ other. sub_says (low_next (30 + j)) (low (30 + (j + takes_of op - leaves_of op))))
 
 abbrev pub EndFact : ℕ → List ℕ → List ℕ → Type 0
 EndFact j x y = (not (eqb (h x 4) 1) ≡ true → BelowFact ops.End j x y) × (eqb (h x 4) 1 ≡ true → BelowFact ops.Drop j x y)
-
-bit_is : (n : ℕ) → n < 2 → n ≡ cond (eqb n 1) 1 0
-bit_is zero few = refl
-bit_is (suc zero) few = refl
-bit_is (suc (suc n)) few = absurd (omega (arith, few))
-
-not_bit_is : (n : ℕ) → n < 2 → felt_sub 1 n ≡ cond (not (eqb n 1)) 1 0
-not_bit_is zero few = refl
-not_bit_is (suc zero) few = refl
-not_bit_is (suc (suc n)) few = absurd (omega (arith, few))
 
 not_both : (t : Bool) → not t && t ≡ false
 not_both true = refl
@@ -257,12 +216,8 @@ not_both false = refl
 end_says : (j : ℕ) (x y : List ℕ) → Low x → Low y → Witness x → h x 4 < 2 → Says (end_term j x y) (EndFact j x y)
 unfolding end_term
 end_says j x y low low_next witness few =
-    says_of
-    (ap (λ n. felt_add (felt_mul n (below_term j x y ops.End)) (felt_mul (h x 4) (below_term j x y ops.Drop))) (not_bit_is (h x 4) few)
-    ∙ ap (λ n. felt_add (felt_mul (cond (not (eqb (h x 4) 1)) 1 0) (below_term j x y ops.End))
-    (felt_mul n (below_term j x y ops.Drop))) (bit_is (h x 4) few))
-    (two_say (not (eqb (h x 4) 1)) (eqb (h x 4) 1) (not_both (eqb (h x 4) 1)) (below_says ops.End j x y low low_next witness)
-    (below_says ops.Drop j x y low low_next witness))
+    both_say (one (less_one _ (bit_is few)) (below_says ops.End j x y low low_next witness))
+    (one (bit_is few) (below_says ops.Drop j x y low low_next witness)) (not_both (eqb (h x 4) 1))
 
 -- ---- the entry
 
@@ -285,10 +240,10 @@ term_says op j x y low low_next witness ends bit =
 rest_same : (n : ℕ) → n < prime → n % prime ≡ n
 rest_same n low = omega arith
 
-pub says_119 : (op next : Op) (j : ℕ) (x y : List ℕ) → Low x → Low y → Witness x → (is_op op ops.End ≡ true → IsEndRow x)
+pub cell_says : (op next : Op) (j : ℕ) (x y : List ℕ) → Low x → Low y → Witness x → (is_op op ops.End ≡ true → IsEndRow x)
     → (tests_top op ≡ true → s x 0 < 2)
     → Says (entry_119 j (hot op) (hot next) x y) (CellFact op j x y)
 unfolding entry_119
-says_119 op next j x y low low_next witness ends bit =
+cell_says op next j x y low low_next witness ends bit =
     let said = term_says op j x y low low_next witness ends bit in
     says_of (ap (λ fl. sum_over fl (term j x y)) (sym (one_hot_is op)) ∙ sum_over-hot op (term j x y) ∙ rest_same (term j x y op) said.low) said

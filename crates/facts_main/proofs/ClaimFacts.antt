@@ -1,44 +1,29 @@
 -- What stands beside the rows of a trace is in the range of elements.
-use Rattle.facts_main.proofs.Words.{ℕ, ◌<◌, ◌≤◌, ◌^◌, length, slice_index, arith, most_outputs, prime, IsLowClaim, ShowsRows}
+use Rattle.facts_main.proofs.Words.{ℕ, ◌<◌, ◌≤◌, length, slice_index, arith, most_outputs, prime, IsLowClaim, ShowsRows}
 use Rattle.vm_field.proofs.Elements.{elements-index}
 use Rattle.vm_table.specs.Layout.{IsTable}
 use Rattle.air_kit.specs.declared.trace.Public.{Public}
+use Rattle.air_kit.specs.declared.trace.TableName.{TableName}
 use Rattle.air_kit.specs.declared.trace.TableName.TheVariants as table
 use Rattle.air_kit.specs.declared.trace.Trace.{Trace}
 use Rattle.air_kit.specs.Acceptance.{AreZero}
-use Rattle.air_kit.specs.Traces.{HasCounts, claim_of, lengths_of}
+use Rattle.air_kit.specs.Traces.{HasCounts, claim_of, lengths_of, most_rows, rows_of}
 use Rattle.facts_main.proofs.TableFacts.{rows_shown}
 use Rattle.facts_main.proofs.CellFacts.{EachLow, elements_each}
+use Rattle.facts_main.proofs.Means.{◌&◌}
 
-few_rows : (n : ℕ) → n ≤ 2 ^ 22 → n < prime
-few_rows n h = omega (arith, h)
+few_rows : (name : TableName) (n : ℕ) → n ≤ most_rows name → n < prime
+few_rows table.Main n h = omega arith
+few_rows name n h = omega arith
 
 lengths_low : (t : Trace) → HasCounts t → (j : ℕ) → slice_index (lengths_of t) j < prime
 lengths_low t counts j = elements-index (lengths_of t) j (elements_each (lengths_of t) each)
   where
+    low : (name : TableName) → length (rows_of t name) < prime
+    low name = few_rows name _ (counts name).most
+
     each : EachLow (lengths_of t)
-    each = (
-      few_rows (length t.main) (let h = (counts table.Main).most in omega (arith, h)),
-      (
-        few_rows (length t.range) (let h = (counts table.Range).most in omega (arith, h)),
-        (
-          few_rows (length t.hasher) (let h = (counts table.Hasher).most in omega (arith, h)),
-          (
-            few_rows (length t.bitwise) (let h = (counts table.Bitwise).most in omega (arith, h)),
-            (
-              few_rows (length t.memory) (let h = (counts table.Memory).most in omega (arith, h)),
-              (
-                few_rows (length t.kernel) (let h = (counts table.Kernel).most in omega (arith, h)),
-                (
-                  few_rows (length t.left) (let h = (counts table.Left).most in omega (arith, h)),
-                  tt,
-                ),
-              ),
-            ),
-          ),
-        ),
-      ),
-    )
+    each = low table.Main & low table.Range & low table.Hasher & low table.Bitwise & low table.Memory & low table.Kernel & low table.Left & tt
 
 few_outputs : (n : ℕ) → n ≤ most_outputs → n < prime
 few_outputs n h = omega (arith, h)

@@ -1,11 +1,13 @@
--- Which operation may follow which, from the entries 60 and 62 to 66, and back.
+-- Which operation may follow which, from the entries 60 to 69, and back.
 use Rattle.facts_main.proofs.Words.{◌≡◌, ◌⊎◌, ℕ, zero, suc, ◌<◌, Bool, true, false, ◌&&◌, ◌||◌, not, cond, eqb, List, refl, sym, ap, ◌∙◌, inl, inr, arith}
-use Rattle.facts_main.proofs.Words.{lit<, ap₂, prime, felt_add, felt_sub, felt_mul, is_ordinary_op, is_start_op, Op, s, sp, is_op, is_call_op, is_batch_op}
-use Rattle.facts_main.proofs.Words.{may_follow}
+use Rattle.facts_main.proofs.Words.{lit<, prime, felt_add, felt_sub, is_ordinary_op, is_start_op, Op, h, s, sp, is_op, is_call_op, is_batch_op}
+use Rattle.facts_main.proofs.Words.{may_follow, slice_index, op_of, Spot, HasOps}
 use Rattle.vm_ops.specs.declared.op.Op.TheVariants as ops
-use Rattle.air_kit.specs.BlockValues.{starts, calls, entry_60, entry_62, entry_63, entry_64, entry_65, entry_66}
-use Rattle.facts_main.proofs.Says.{Says, says_of, off, never, rest_low, none_is, sub_says, zero_says, mul_says, gate_says, gate_product_says, sum_says, test_says, fails_says, passes_says}
+use Rattle.air_kit.specs.BlockValues.{starts, calls, follow_values, entry_60, entry_61, entry_62, entry_63, entry_64, entry_65, entry_66, entry_67, entry_68, entry_69}
+use Rattle.facts_main.proofs.Says.{Says, says_of, off, never, zero_says, sub_says, mul_says, gate, gate_bit, gate_mul, one, both, tested, test_says, fails_says, passes_says}
 use Rattle.facts_main.proofs.Hot.{hot, set_is}
+use Rattle.facts_main.proofs.Means.{Means, ◌▸◌, ◌&◌, means_as, nothing}
+use Rattle.facts_main.proofs.SpotSays.{Behind, row_at, pair_at}
 use Rattle.facts_main.proofs.BatchFacts.{batches_is}
 
 -- the row of a child, a callee, a target or a loop's next turn comes behind
@@ -37,58 +39,13 @@ one_nests : (op : Op) → nests op && is_op op ops.Loop ≡ false
 one_nests ops.Join = refl
 one_nests op = refl
 
-either_off : (t u : Bool) (v : ℕ) → t && u ≡ false → (◌≡◌ {A = ℕ} (cond t 1 0) 0) ⊎ (felt_mul (cond u 1 0) v ≡ 0)
-either_off false u v apart = inl refl
-either_off true false v apart = inr (none_is v)
-either_off true true v apart = never apart
+conditions_is : (op : Op) → felt_add (hot op ops.Split) (hot op ops.Loop) ≡ cond (is_op op ops.Split || is_op op ops.Loop) 1 0
+conditions_is ops.Split = refl
+conditions_is op = refl
 
-pub says_60 : (op next : Op) (x y : List ℕ) → Says (entry_60 (hot op) (hot next) x y) (is_op op ops.Halt ≡ false)
-unfolding entry_60
-says_60 op next x y = test_says (is_op op ops.Halt)
-
-pub says_62 : (op next : Op) (x y : List ℕ) → s x 0 < prime
-    → Says (entry_62 (hot op) (hot next) x y) (((nests op ≡ false) × (is_op op ops.Loop ≡ true → s x 0 ≡ 0)) ⊎ (is_start_op next ≡ true))
-unfolding entry_62 calls
-says_62 op next x y low =
-    mul_says
-    (says_of (ap (λ n. felt_add n (felt_mul (hot op ops.Loop) (s x 0))) (nests_is op))
-    (sum_says (either_off (nests op) (is_op op ops.Loop) (s x 0) (one_nests op)) (test_says (nests op))
-    (gate_says (is_op op ops.Loop) (zero_says (s x 0) low))))
-    (says_of (ap (λ n. felt_sub 1 n) (starts_is next)) (passes_says (is_start_op next)))
-
-pub says_63 : (op next : Op) (x y : List ℕ) → s x 0 < prime
-    → Says (entry_63 (hot op) (hot next) x y) (is_op op ops.Loop ≡ true → (1 ≡ s x 0) ⊎ (is_op next ops.End ≡ true))
-unfolding entry_63
-says_63 op next x y low =
-    gate_product_says (is_op op ops.Loop) (felt_sub 1 (s x 0)) (felt_sub 1 (hot next ops.End)) (rest_low _)
-    (mul_says (sub_says 1 (s x 0) (lit< tt) low) (passes_says (is_op next ops.End)))
-
-pub says_64 : (op next : Op) (x y : List ℕ) → sp y ≡ cond (is_ordinary_op next) 1 0
-    → Says (entry_64 (hot op) (hot next) x y) (is_batch_op op ≡ true → is_ordinary_op next ≡ true)
-unfolding entry_64
-says_64 op next x y span =
-    says_of (ap₂ (λ n m. felt_mul n (felt_sub 1 m)) (batches_is op) span)
-    (gate_says (is_batch_op op) (passes_says (is_ordinary_op next)))
-
-pub says_65 : (op next : Op) (x y : List ℕ) → sp x ≡ cond (is_ordinary_op op) 1 0 → sp y ≡ cond (is_ordinary_op next) 1 0
-    → Says (entry_65 (hot op) (hot next) x y) (is_ordinary_op op ≡ true → is_ordinary_op next || is_op next ops.End || is_op next ops.Respan ≡ true)
-unfolding entry_65
-says_65 op next x y span span_next =
-    says_of
-    (ap₂ (λ n m. felt_mul n m) span
-    (ap (λ n. felt_sub (felt_sub (felt_sub 1 n) (hot next ops.End)) (hot next ops.Respan)) span_next ∙ behind_operation next))
-    (gate_says (is_ordinary_op op) (fails_says (is_ordinary_op next || is_op next ops.End || is_op next ops.Respan)))
-
-pub says_66 : (op next : Op) (x y : List ℕ)
-    → Says (entry_66 (hot op) (hot next) x y) (is_op op ops.End ≡ true
-    → is_start_op next || is_op next ops.End || is_op next ops.Repeat || is_op next ops.Halt ≡ true)
-unfolding entry_66
-says_66 op next x y =
-    says_of
-    (ap (felt_mul (hot op ops.End))
-    (ap (λ n. felt_sub (felt_sub (felt_sub (felt_sub 1 n) (hot next ops.End)) (hot next ops.Repeat)) (hot next ops.Halt))
-    (starts_is next) ∙ behind_end next))
-    (gate_says (is_op op ops.End) (fails_says (is_start_op next || is_op next ops.End || is_op next ops.Repeat || is_op next ops.Halt)))
+pub span_says : (op : Op) (x : List ℕ) → ((k : ℕ) → slice_index x k < prime) → Says (entry_61 (hot op) x) (sp x ≡ cond (is_ordinary_op op) 1 0)
+unfolding entry_61
+span_says op x low = says_of (ap (felt_sub (sp x)) (set_is op is_ordinary_op)) (sub_says (low 24) (test_says (is_ordinary_op op)).low)
 
 -- what these entries say together
 pub record Follow (op next : Op) (top : ℕ) : Type 0 where
@@ -198,3 +155,56 @@ follow_from op next top low m = record {
   ordinary = λ h. m;
   ends = λ h. off h;
 }
+
+-- what the conditions of blocks show
+pub record Conditions (op : Op) (x : List ℕ) : Type 0 where
+  pub condition : is_op op ops.Split || is_op op ops.Loop ≡ true → s x 0 < 2
+  pub again : is_op op ops.Repeat ≡ true → s x 0 ≡ 1
+  pub stops : is_op op ops.End ≡ true → (h x 4 ≡ 0) ⊎ (s x 0 ≡ 0)
+
+second_of : (t u : Bool) → u ≡ true → t || u ≡ true
+second_of true u e = refl
+second_of false u e = e
+
+-- a loop's condition is a bit
+loop_bit : (op : Op) (x : List ℕ) → Conditions op x → is_op op ops.Loop ≡ true → s x 0 < 2
+loop_bit op x c is = c.condition (second_of (is_op op ops.Split) (is_op op ops.Loop) is)
+
+pub follow_means : (op : Op) (p : Spot) → HasOps op p
+    → Means (follow_values p) (Conditions op p.cur × Behind p (λ y. may_follow op (s p.cur 0) (op_of y) ≡ true))
+unfolding follow_values entry_60 entry_62 calls entry_63 entry_64 entry_65 entry_66 entry_67 entry_68 entry_69
+follow_means op p r =
+    means_as
+    (pair_at entry_60 r (λ y n. test_says (is_op op ops.Halt)) ▸ row_at entry_61 r (span_says op p.cur low)
+    ▸ pair_at entry_62 r (λ y n.
+    mul_says (both (tested (nests_is op)) (one refl (zero_says (low 30))) (one_nests op)).says (passes_says (starts_is (op_of y))))
+    ▸ pair_at entry_63 r (λ y n. gate_mul refl (sub_says (lit< tt) (low 30)) (passes_says refl))
+    ▸ pair_at entry_64 r (λ y n. gate (batches_is op) (passes_says n.span))
+    ▸ pair_at entry_65 r (λ y n. gate r.here.span (says_of
+    (ap (λ m. felt_sub (felt_sub (felt_sub 1 m) (hot (op_of y) ops.End)) (hot (op_of y) ops.Respan)) n.span ∙ behind_operation (op_of y))
+    (fails_says _)))
+    ▸ pair_at entry_66 r (λ y n. gate refl (says_of
+    (ap (λ m. felt_sub (felt_sub (felt_sub (felt_sub 1 m) (hot (op_of y) ops.End)) (hot (op_of y) ops.Repeat)) (hot (op_of y) ops.Halt))
+    (starts_is (op_of y)) ∙ behind_end (op_of y)) (fails_says _)))
+    ▸ row_at entry_67 r (gate_bit (conditions_is op) (low 30)) ▸ row_at entry_68 r (gate refl (sub_says (low 30) (lit< tt)))
+    ▸ row_at entry_69 r (gate_mul refl (zero_says (low 20)) (zero_says (low 30))) ▸ nothing)
+    (λ (halt, (span, (inner, (skips, (batch, (ordinary, (ends, (condition, (again, (stops, done)))))))))).
+    (let c : Conditions op p.cur = record { condition = condition; again = again; stops = stops } in (
+      c,
+      λ y e. follow_shown op (op_of y) (s p.cur 0) (loop_bit op p.cur c) (record {
+        halt = halt y e;
+        inner = inner y e;
+        skips = skips y e;
+        batch = batch y e;
+        ordinary = ordinary y e;
+        ends = ends y e;
+      }),
+    )))
+    (λ (c, follows).
+    (let f : Behind p (λ y. Follow op (op_of y) (s p.cur 0)) =
+    λ y e. follow_from op (op_of y) (s p.cur 0) (loop_bit op p.cur c) (follows y e) in
+    (λ y e. (f y e).halt) & r.here.span & (λ y e. (f y e).inner) & (λ y e. (f y e).skips) & (λ y e. (f y e).batch)
+    & (λ y e. (f y e).ordinary) & (λ y e. (f y e).ends) & c.condition & c.again & c.stops & tt))
+  where
+    low : (j : ℕ) → slice_index p.cur j < prime
+    low = r.here.low

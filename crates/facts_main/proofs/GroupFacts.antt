@@ -1,12 +1,14 @@
--- What the entries 107 to 114 say where they are 0: how the rows of ordinary operations take the digits of a group.
-use Rattle.facts_main.proofs.Words.{◌≡◌, ◌≢◌, ◌⊎◌, ℕ, ◌+◌, ◌*◌, ◌<◌, ◌≤◌, Bool, true, false, ◌||◌, not, cond, eqb, List, refl, sym, ap, subst, ◌∙◌, inl, inr}
-use Rattle.facts_main.proofs.Words.{⊎_elim, arith, lit<, ap₂, cases_Bool, eqb-true, nat_tests, prime, felt_add, felt_sub, felt_mul, code_of, is_ordinary_op}
-use Rattle.facts_main.proofs.Words.{Op, b, h, sp, gc, ox, w, HasOp, is_op, spelled, IsGroupRow, GoesOn, stays, pushes, opens, ends}
+-- What the entries 107 to 114 say where they are 0, and back: how the rows of ordinary operations take the digits of a group.
+use Rattle.facts_main.proofs.Words.{◌≡◌, ◌≢◌, ◌⊎◌, ℕ, zero, suc, ◌+◌, ◌*◌, ◌<◌, ◌≤◌, Bool, true, false, ◌||◌, not, cond, eqb, List, refl, sym, ap, subst, ◌∙◌, inl, inr}
+use Rattle.facts_main.proofs.Words.{⊎_elim, arith, lit<, cases_Bool, eqb-true, nat_tests, prime, felt_add, felt_sub, felt_mul, code_of, is_ordinary_op}
+use Rattle.facts_main.proofs.Words.{Op, b, h, sp, gc, ox, w, HasOp, HasOps, Spot, is_op, op_of, spelled, IsGroupRow, GoesOn, stays, pushes, opens, ends}
 use Rattle.vm_ops.specs.declared.op.Op.TheVariants as ops
 use Rattle.vm_ops.proofs.CodeLemmas.{code_of-below}
-use Rattle.air_kit.specs.SpanValues.{opcode_in, rest, rest_flag, goes_on, entry_107, entry_108, entry_109, entry_110, entry_111, entry_112, entry_113, entry_114}
-use Rattle.facts_main.proofs.Says.{Says, says_of, says_as, off, never, rest_low, none_is, zero_says, sub_says, sub_twice_says, mul_says, gate_says, gate_product_says, gate_product_says_if, regate, test_says, passes_says, either_or}
+use Rattle.air_kit.specs.SpanValues.{group_values, opcode_in, rest, rest_flag, goes_on, entry_107, entry_108, entry_109, entry_110, entry_111, entry_112, entry_113, entry_114}
+use Rattle.facts_main.proofs.Says.{Says, says_of, says_as, off, never, rest_low, rest_says, none_is, zero_says, sub_says, sub_twice_says, mul_says, witness_says, gate, gate_mul, gate_product_if, regroup, test_says, passes_says, eqb_of, either_or}
 use Rattle.facts_main.proofs.Hot.{hot}
+use Rattle.facts_main.proofs.Means.{Means, ◌▸◌, ◌&◌, first_then, means_as, nothing}
+use Rattle.facts_main.proofs.SpotSays.{Behind, row_at, pair_at}
 use Rattle.facts_main.proofs.BlockFacts.{Low}
 
 -- ---- the number of the operation, and what is left of the group
@@ -15,7 +17,7 @@ code_by : (i j k l m n o : ℕ) → i < 2 → j < 2 → k < 2 → l < 2 → m < 
     → felt_add (felt_add (felt_add (felt_add (felt_add (felt_add i (felt_mul 2 j)) (felt_mul 4 k)) (felt_mul 8 l)) (felt_mul 16 m)) (felt_mul 32 n))
     (felt_mul 64 o)
     ≡ i + 2 * (j + 2 * (k + 2 * (l + 2 * (m + 2 * (n + 2 * (o + 2 * 0))))))
-code_by i j k l m n o hi hj hk hl hm hn ho = omega (arith, hi, hj, hk, hl, hm, hn, ho)
+code_by i j k l m n o hi hj hk hl hm hn ho = omega arith
 
 opcode_is : (op : Op) (x : List ℕ) → HasOp x op → opcode_in x ≡ code_of op
 unfolding opcode_in spelled
@@ -38,17 +40,21 @@ is_left_over op x = not (eqb (h x 0) (code_of op))
 pub flag_by_witness : (i k w : ℕ) → i < prime → (i ≢ k → felt_mul (felt_sub i k) w ≡ 1) → felt_mul (felt_sub i k) w ≡ cond (not (eqb i k)) 1 0
 flag_by_witness i k w low witness =
     elim (cases_Bool (eqb i k)) [
-      | inl is ↦ rw is (let z : felt_sub i k ≡ 0 = let e = eqb-true i k is in omega (arith, low, e) in ap (λ n. felt_mul n w) z ∙ none_is w)
-      | inr other ↦ rw other (witness (λ e. let t : eqb i k ≡ true = grind (arith, nat_tests, e) in never (sym t ∙ other)))
+      | inl is ↦ rw is (let e = eqb-true i k is in let z : felt_sub i k ≡ 0 = omega arith in ap (λ n. felt_mul n w) z ∙ none_is w)
+      | inr other ↦ rw other (witness (λ e. never (sym (eqb_of i k e) ∙ other)))
     ]
 
-pub flag_is : (op : Op) (x : List ℕ) → HasOp x op → Low x → IsGroupRow op x → rest_flag x ≡ cond (is_left_over op x) 1 0
+-- by its witness
+abbrev pub HasRest : Op → List ℕ → Type 0
+HasRest op x = h x 0 ≢ code_of op → felt_mul (felt_sub (h x 0) (code_of op)) (w x 3) ≡ 1
+
+pub flag_is : (op : Op) (x : List ℕ) → HasOp x op → Low x → HasRest op x → rest_flag x ≡ cond (is_left_over op x) 1 0
 unfolding rest_flag
-flag_is op x has low row =
-    ap (λ n. felt_mul n (w x 3)) (rest_is op x has) ∙ flag_by_witness (h x 0) (code_of op) (w x 3) (low 16) row.witness
+flag_is op x has low witness =
+    ap (λ n. felt_mul n (w x 3)) (rest_is op x has) ∙ flag_by_witness (h x 0) (code_of op) (w x 3) (low 16) witness
 
 -- the group goes on
-abbrev pub goes : Op → List ℕ → Bool
+abbrev goes : Op → List ℕ → Bool
 goes op x = is_op op ops.Push || is_left_over op x
 
 joined : (u g : Bool) → felt_add (cond g 1 0) (felt_mul (cond u 1 0) (felt_sub 1 (cond g 1 0))) ≡ cond (u || g) 1 0
@@ -57,156 +63,35 @@ joined true false = refl
 joined false true = refl
 joined false false = refl
 
-goes_is : (op : Op) (x : List ℕ) → HasOp x op → Low x → IsGroupRow op x → goes_on (hot op) x ≡ cond (goes op x) 1 0
+goes_is : (op : Op) (x : List ℕ) → HasOp x op → Low x → HasRest op x → goes_on (hot op) x ≡ cond (goes op x) 1 0
 unfolding goes_on
-goes_is op x has low row =
-    ap (λ n. felt_add n (felt_mul (hot op ops.Push) (felt_sub 1 n))) (flag_is op x has low row) ∙ joined (is_op op ops.Push) (is_left_over op x)
+goes_is op x has low witness =
+    ap (λ n. felt_add n (felt_mul (hot op ops.Push) (felt_sub 1 n))) (flag_is op x has low witness) ∙ joined (is_op op ops.Push) (is_left_over op x)
 
--- ---- the row
+-- ---- what single entries say
 
-unless : (i k v : ℕ) → (i ≡ k) ⊎ (1 ≡ v) → i ≢ k → v ≡ 1
-unless i k v (inl e) apart = absurd (apart e)
-unless i k v (inr e) apart = sym e
+-- a product over all places up to one
+places : ℕ → ℕ → ℕ → ℕ
+places f v zero = felt_mul f v
+places f v (suc k) = felt_mul (places f v k) (felt_sub v (suc k))
 
-pub says_107 : (op : Op) (x : List ℕ) → HasOp x op → Low x → sp x ≡ cond (is_ordinary_op op) 1 0
-    → Says (entry_107 (hot op) x) (is_ordinary_op op ≡ true → h x 0 ≢ code_of op → felt_mul (felt_sub (h x 0) (code_of op)) (w x 3) ≡ 1)
-unfolding entry_107 rest_flag
-says_107 op x has low span =
-    says_of
-    (ap₂ (λ n m. felt_mul (felt_mul n m) (felt_sub 1 (felt_mul m (w x 3)))) span (rest_is op x has))
-    (says_as
-    (gate_product_says (is_ordinary_op op) z (felt_sub 1 (felt_mul z (w x 3))) (rest_low _)
-    (mul_says (sub_says (h x 0) (code_of op) (low 16) (code_low op)) (sub_says 1 (felt_mul z (w x 3)) (lit< tt) (rest_low _))))
-    (λ f is apart. unless (h x 0) (code_of op) (felt_mul z (w x 3)) (f is) apart)
-    (λ f is. ⊎_elim (λ e. inl e) (λ apart. inr (sym (f is apart))) (either_or (h x 0) (code_of op))))
-  where
-    z : ℕ
-    z = felt_sub (h x 0) (code_of op)
+places_say : {f v : ℕ} {t : Bool} (k : ℕ) → f ≡ cond t 1 0 → v < prime → k < prime → Says (places f v k) (t ≡ true → v ≤ k)
+unfolding places
+places_say zero flag low few = says_as (gate flag (zero_says low)) (λ f is. let e = f is in omega arith) (λ f is. let e = f is in omega arith)
+places_say {v = v} {t = t} (suc k) flag low few =
+    says_as (mul_says (places_say k flag low (omega arith)) (sub_says low few)) (λ h is. ⊎_elim (λ f. let m = f is in omega arith) (λ e. omega arith) h)
+    (λ f. ⊎_elim (λ e. inr e) (λ apart. inl (λ is. let m = f is in omega arith)) (either_or v (suc k)))
 
--- one more place
-place_more : {u : ℕ} (t : Bool) (v k : ℕ) → v < prime → k < prime → Says u (t ≡ true → v < k)
-    → Says (felt_mul u (felt_sub v k)) (t ≡ true → v < k + 1)
-place_more t v k low few s =
-    says_as (mul_says s (sub_says v k low few)) (λ h is. one h is) (λ f. ⊎_elim (λ e. inr e)
-    (λ apart. inl (λ is. let m : v < k + 1 = f is in omega (arith, m, apart))) (either_or v k))
-  where
-    one : (t ≡ true → v < k) ⊎ (v ≡ k) → t ≡ true → v < k + 1
-    one (inl f) is = let m : v < k = f is in omega (arith, m)
-    one (inr e) is = omega (arith, e)
-
-pub says_114 : (op : Op) (x : List ℕ) → Low x → sp x ≡ cond (is_ordinary_op op) 1 0
-    → Says (entry_114 (hot op) x) (is_ordinary_op op ≡ true → ox x ≤ 8)
-unfolding entry_114
-says_114 op x low span =
-    says_of
-    (ap (λ n. felt_mul (felt_mul (felt_mul
-    (felt_mul (felt_mul (felt_mul (felt_mul (felt_mul (felt_mul n (ox x)) (felt_sub (ox x) 1)) (felt_sub (ox x) 2))
-    (felt_sub (ox x) 3)) (felt_sub (ox x) 4)) (felt_sub (ox x) 5)) (felt_sub (ox x) 6)) (felt_sub (ox x) 7)) (felt_sub (ox x) 8)) span)
-    (says_as
-    (more 8 (lit< tt) (more 7 (lit< tt) (more 6 (lit< tt) (more 5 (lit< tt)
-    (more 4 (lit< tt) (more 3 (lit< tt) (more 2 (lit< tt) (more 1 (lit< tt) first))))))))
-    (λ f is. let m : ox x < 9 = f is in omega (arith, m)) (λ f is. let m : ox x ≤ 8 = f is in omega (arith, m)))
-  where
-    t : Bool
-    t = is_ordinary_op op
-
-    first : Says (felt_mul (cond t 1 0) (ox x)) (t ≡ true → ox x < 1)
-    first = gate_says t (says_as (zero_says (ox x) (low 26)) (λ e. omega (arith, e)) (λ e. omega (arith, e)))
-
-    more : {u : ℕ} (k : ℕ) → k < prime → Says u (t ≡ true → ox x < k) → Says (felt_mul u (felt_sub (ox x) k)) (t ≡ true → ox x < k + 1)
-    more k few s = place_more t (ox x) k (low 26) few s
-
--- ---- the row behind it
-
-goes_low : (op : Op) (x : List ℕ) → goes_on (hot op) x < prime
-unfolding goes_on
-goes_low op x = rest_low _
-
-pub says_108 : (op next : Op) (x y : List ℕ) → HasOp x op → Low x → (is_ordinary_op op ≡ true → IsGroupRow op x)
-    → sp x ≡ cond (is_ordinary_op op) 1 0 → sp y ≡ cond (is_ordinary_op next) 1 0
-    → Says (entry_108 (hot op) (hot next) x y) (is_ordinary_op op ≡ true → (goes op x ≡ false) ⊎ (is_ordinary_op next ≡ true))
-unfolding entry_108
-says_108 op next x y has low row span span_next =
-    says_of
-    (ap₂ (λ n m. felt_mul (felt_mul n (goes_on (hot op) x)) (felt_sub 1 m)) span span_next)
-    (gate_product_says_if (is_ordinary_op op) (goes_on (hot op) x) (felt_sub 1 (cond (is_ordinary_op next) 1 0)) (goes_low op x)
-    (λ is. mul_says (says_of (goes_is op x has low (row is)) (test_says (goes op x))) (passes_says (is_ordinary_op next))))
-
-turn : (m i k : ℕ) → i < prime → k < prime → m < prime → Says (felt_sub m (felt_sub i k)) (i ≡ felt_add k m)
-turn m i k li lk lm =
-    says_as (sub_says m (felt_sub i k) lm (rest_low _)) (λ e. omega (arith, li, lk, lm, e)) (λ e. omega (arith, li, lk, lm, e))
-
-pub says_109 : (op next : Op) (x y : List ℕ) → HasOp x op → Low x → (is_ordinary_op op ≡ true → IsGroupRow op x)
-    → sp x ≡ cond (is_ordinary_op op) 1 0
-    → Says (entry_109 (hot op) (hot next) x y)
-    (is_ordinary_op op ≡ true → (goes op x ≡ false) ⊎ (h x 0 ≡ felt_add (code_of op) (felt_mul 128 (h y 0))))
-unfolding entry_109
-says_109 op next x y has low row span =
-    says_of
-    (ap₂ (λ n m. felt_mul (felt_mul n (goes_on (hot op) x)) (felt_sub (felt_mul 128 (h y 0)) m)) span (rest_is op x has))
-    (gate_product_says_if (is_ordinary_op op) (goes_on (hot op) x) (felt_sub (felt_mul 128 (h y 0)) (felt_sub (h x 0) (code_of op))) (goes_low op x)
-    (λ is. mul_says (says_of (goes_is op x has low (row is)) (test_says (goes op x)))
-    (turn (felt_mul 128 (h y 0)) (h x 0) (code_of op) (low 16) (code_low op) (rest_low _))))
-
-pub says_110 : (op next : Op) (x y : List ℕ) → HasOp x op → Low x → Low y → (is_ordinary_op op ≡ true → IsGroupRow op x)
-    → sp x ≡ cond (is_ordinary_op op) 1 0
-    → Says (entry_110 (hot op) (hot next) x y) (is_ordinary_op op ≡ true → (goes op x ≡ false) ⊎ (ox y ≡ felt_add (ox x) 1))
-unfolding entry_110
-says_110 op next x y has low low_next row span =
-    says_of (ap (λ n. felt_mul (felt_mul n (goes_on (hot op) x)) (felt_sub (felt_sub (ox y) (ox x)) 1)) span)
-    (gate_product_says_if (is_ordinary_op op) (goes_on (hot op) x) (felt_sub (felt_sub (ox y) (ox x)) 1) (goes_low op x)
-    (λ is. mul_says (says_of (goes_is op x has low (row is)) (test_says (goes op x)))
-    (sub_twice_says (ox y) (ox x) 1 (low_next 26) (low 26) (lit< tt))))
-
-three_gated : {P : Type 0} (t : Bool) (i j k : ℕ) → i < prime → (t ≡ true → Says (felt_mul (felt_mul i j) k) P)
-    → Says (felt_mul (felt_mul (felt_mul (cond t 1 0) i) j) k) (t ≡ true → P)
-three_gated t i j k low s = says_of (ap (λ n. felt_mul n k) (regate t i j low)) (gate_product_says_if t (felt_mul i j) k (rest_low _) s)
-
-pub says_111 : (op next : Op) (x y : List ℕ) → HasOp x op → Low x → Low y → (is_ordinary_op op ≡ true → IsGroupRow op x)
-    → sp x ≡ cond (is_ordinary_op op) 1 0 → sp y ≡ cond (is_ordinary_op next) 1 0
-    → Says (entry_111 (hot op) (hot next) x y) (is_ordinary_op op ≡ true → ((goes op x ≡ true) ⊎ (is_ordinary_op next ≡ false)) ⊎ (ox y ≡ 0))
-unfolding entry_111
-says_111 op next x y has low low_next row span span_next =
-    says_of
-    (ap₂ (λ n m. felt_mul (felt_mul (felt_mul n (felt_sub 1 (goes_on (hot op) x))) m) (ox y)) span span_next)
-    (three_gated (is_ordinary_op op) (felt_sub 1 (goes_on (hot op) x)) (cond (is_ordinary_op next) 1 0) (ox y) (rest_low _)
-    (λ is. mul_says (mul_says (says_of (ap (λ n. felt_sub 1 n) (goes_is op x has low (row is))) (passes_says (goes op x)))
-    (test_says (is_ordinary_op next)))
-    (zero_says (ox y) (low_next 26))))
-
-pub says_112 : (op next : Op) (x y : List ℕ) → Low x
-    → sp x ≡ cond (is_ordinary_op op) 1 0 → sp y ≡ cond (is_ordinary_op next) 1 0
-    → Says (entry_112 (hot op) (hot next) x y) (is_ordinary_op op ≡ true → (is_ordinary_op next ≡ true) ⊎ (gc x ≡ 0))
-unfolding entry_112
-says_112 op next x y low span span_next =
-    says_of
-    (ap₂ (λ n m. felt_mul (felt_mul n (felt_sub 1 m)) (gc x)) span span_next)
-    (gate_product_says (is_ordinary_op op) (felt_sub 1 (cond (is_ordinary_op next) 1 0)) (gc x) (rest_low _)
-    (mul_says (passes_says (is_ordinary_op next)) (zero_says (gc x) (low 25))))
+turn : {m i k : ℕ} → m < prime → i < prime → k < prime → Says (felt_sub m (felt_sub i k)) (i ≡ felt_add k m)
+turn lm li lk = says_as (sub_says lm (rest_low _)) (λ e. omega arith) (λ e. omega arith)
 
 -- a position is taken by an immediate, and by the group that is opened
-count_says : (u g : Bool) (i k : ℕ) → i < prime → k < prime
-    → Says (felt_sub (felt_add (felt_add (felt_sub k i) (cond u 1 0)) 1) (cond (u || g) 1 0)) (i ≡ cond (u || not g) (felt_add k 1) k)
-count_says true true i k li lk = record { low = rest_low _; shown = λ z. omega (arith, li, lk, z); zero_where = λ e. omega (arith, li, lk, e) }
-count_says true false i k li lk = record { low = rest_low _; shown = λ z. omega (arith, li, lk, z); zero_where = λ e. omega (arith, li, lk, e) }
-count_says false true i k li lk = record { low = rest_low _; shown = λ z. omega (arith, li, lk, z); zero_where = λ e. omega (arith, li, lk, e) }
-count_says false false i k li lk = record { low = rest_low _; shown = λ z. omega (arith, li, lk, z); zero_where = λ e. omega (arith, li, lk, e) }
-
-pub says_113 : (op next : Op) (x y : List ℕ) → HasOp x op → Low x → Low y → (is_ordinary_op op ≡ true → IsGroupRow op x)
-    → sp x ≡ cond (is_ordinary_op op) 1 0 → sp y ≡ cond (is_ordinary_op next) 1 0
-    → Says (entry_113 (hot op) (hot next) x y)
-    (is_ordinary_op op ≡ true → (is_ordinary_op next ≡ false)
-    ⊎ (gc x ≡ cond (is_op op ops.Push || not (is_left_over op x)) (felt_add (gc y) 1) (gc y)))
-unfolding entry_113
-says_113 op next x y has low low_next row span span_next =
-    says_of
-    (ap₂ (λ n m. felt_mul (felt_mul n m)
-    (felt_sub (felt_add (felt_add (felt_sub (gc y) (gc x)) (hot op ops.Push)) 1) (goes_on (hot op) x))) span span_next)
-    (gate_product_says_if (is_ordinary_op op) (cond (is_ordinary_op next) 1 0)
-    (felt_sub (felt_add (felt_add (felt_sub (gc y) (gc x)) (hot op ops.Push)) 1) (goes_on (hot op) x)) (test_says (is_ordinary_op next)).low
-    (λ is. mul_says (test_says (is_ordinary_op next))
-    (says_of (ap (λ n. felt_sub (felt_add (felt_add (felt_sub (gc y) (gc x)) (hot op ops.Push)) 1) n) (goes_is op x has low (row is)))
-    (count_says (is_op op ops.Push) (is_left_over op x) (gc x) (gc y) (low 25) (low_next 25)))))
+count_says : {i k f : ℕ} (u g : Bool) → f ≡ cond (u || g) 1 0 → i < prime → k < prime
+    → Says (felt_sub (felt_add (felt_add (felt_sub k i) (cond u 1 0)) 1) f) (i ≡ cond (u || not g) (felt_add k 1) k)
+count_says true true e li lk = rest_says _ (λ z. omega arith) (λ k. omega arith)
+count_says true false e li lk = rest_says _ (λ z. omega arith) (λ k. omega arith)
+count_says false true e li lk = rest_says _ (λ z. omega arith) (λ k. omega arith)
+count_says false false e li lk = rest_says _ (λ z. omega arith) (λ k. omega arith)
 
 -- ---- the four cases
 
@@ -236,7 +121,7 @@ same_where : (i k : ℕ) → not (eqb i k) ≡ false → i ≡ k
 same_where i k e = grind (arith, nat_tests)
 
 other_where : (i k : ℕ) → not (eqb i k) ≡ true → i ≢ k
-other_where i k e same = let t : eqb i k ≡ true = grind (arith, nat_tests, same) in never (sym e ∙ ap not t)
+other_where i k e same = never (sym e ∙ ap not (eqb_of i k same))
 
 pub goes_shown : (op next : Op) (x y : List ℕ) (u g n : Bool) → is_op op ops.Push ≡ u → is_left_over op x ≡ g
     → is_ordinary_op next ≡ n → Goes op x y u g n
@@ -275,3 +160,52 @@ goes_from op next x y (opens eu en none place count) =
 goes_from op next x y (ends eu en none left) =
     moved op x y _ _ _ false false false eu (not_over (h x 0) (code_of op) none) en
     (record { next_row = inl refl; rest_of = inl refl; place = inl refl; opens_at = inl (inr refl); ends_at = inr left; count = inl refl })
+
+pub group_means : (op : Op) (p : Spot) → HasOps op p
+    → Means (group_values p) ((is_ordinary_op op ≡ true → IsGroupRow op p.cur)
+    × Behind p (λ y. is_ordinary_op op ≡ true → GoesOn op (op_of y) p.cur y))
+unfolding group_values places entry_107 rest_flag entry_108 entry_109 entry_110 entry_111 entry_112 entry_113 entry_114
+group_means op p r =
+    means_as
+    (first_then (row_at entry_107 r (says_of (ap (λ m. felt_mul (felt_mul (sp x) m) (felt_sub 1 (felt_mul m (w x 3)))) rest_at)
+    (gate_product_if _ _ span (λ is. witness_says (low 16) (code_low op) (rest_low _))))) (λ witness.
+    let goes_at : is_ordinary_op op ≡ true → goes_on (hot op) x ≡ cond (goes op x) 1 0 = λ is. goes_is op x r.here.has low (witness is) in
+    let goes_say : is_ordinary_op op ≡ true → Says (goes_on (hot op) x) (goes op x ≡ false) = λ is. says_of (goes_at is) (test_says _) in
+    pair_at entry_108 r (λ y n. gate_product_if _ _ span (λ is. mul_says (goes_say is) (passes_says n.span)))
+    ▸ pair_at entry_109 r (λ y n. gate_product_if _ _ span (λ is. mul_says (goes_say is)
+    (says_of (ap (felt_sub (felt_mul 128 (h y 0))) rest_at) (turn (rest_low _) (low 16) (code_low op)))))
+    ▸ pair_at entry_110 r (λ y n. gate_product_if _ _ span (λ is. mul_says (goes_say is) (sub_twice_says {k = 1} (n.low 26) (low 26) (lit< tt))))
+    ▸ pair_at entry_111 r (λ y n. says_of (ap (λ m. felt_mul m (ox y)) (regroup _ _ _)) (gate_product_if _ _ span (λ is.
+    mul_says (mul_says (passes_says (goes_at is)) (says_of n.span (test_says _))) (zero_says (n.low 26)))))
+    ▸ pair_at entry_112 r (λ y n. gate_mul span (passes_says n.span) (zero_says (low 25)))
+    ▸ pair_at entry_113 r (λ y n. gate_product_if _ _ span (λ is. mul_says (says_of n.span (test_says _))
+    (count_says (is_op op ops.Push) (is_left_over op x) (goes_at is) (low 25) (n.low 25))))
+    ▸ row_at entry_114 r (places_say 8 span (low 26) (lit< tt)) ▸ nothing))
+    (λ (witness, (next_row, (rest_of, (place, (opens_at, (ends_at, (count, (few, done)))))))). (
+      λ is. record { place = few is; witness = witness is },
+      λ y e is. goes_shown op (op_of y) x y (is_op op ops.Push) (is_left_over op x) (is_ordinary_op (op_of y)) refl refl refl (record {
+        next_row = next_row y e is;
+        rest_of = rest_of y e is;
+        place = place y e is;
+        opens_at = opens_at y e is;
+        ends_at = ends_at y e is;
+        count = count y e is;
+      }),
+    ))
+    (λ (row, on).
+    (let g : Behind p (λ y. is_ordinary_op op ≡ true → Goes op x y (is_op op ops.Push) (is_left_over op x) (is_ordinary_op (op_of y))) =
+    λ y e is. goes_from op (op_of y) x y (on y e is) in
+    (λ is. (row is).witness) & (λ y e is. (g y e is).next_row) & (λ y e is. (g y e is).rest_of) & (λ y e is. (g y e is).place)
+    & (λ y e is. (g y e is).opens_at) & (λ y e is. (g y e is).ends_at) & (λ y e is. (g y e is).count) & (λ is. (row is).place) & tt))
+  where
+    x : List ℕ
+    x = p.cur
+
+    low : Low x
+    low = r.here.low
+
+    span : sp x ≡ cond (is_ordinary_op op) 1 0
+    span = r.here.span
+
+    rest_at : rest x ≡ felt_sub (h x 0) (code_of op)
+    rest_at = rest_is op x r.here.has

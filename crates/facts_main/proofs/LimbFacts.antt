@@ -1,43 +1,13 @@
--- What the entries 140 to 147 say where they are 0, one by one.
-use Rattle.facts_main.proofs.Words.{◌≡◌, ◌≢◌, ◌⊎◌, ℕ, ◌-◌, ◌^◌, ◌<◌, Bool, true, false, ◌&&◌, ◌||◌, cond, List, refl, sym, ap, ◌∙◌, inl, inr, ⊎_elim, arith}
-use Rattle.facts_main.proofs.Words.{lit<, ap₂, prime, felt_add, felt_sub, felt_mul, Op, s, t, w, is_op}
+-- What the entries 140 to 147 say where they are 0, and back: numbers of 32 bits.
+use Rattle.facts_main.proofs.Words.{◌≡◌, ℕ, ◌<◌, Bool, true, false, ◌&&◌, ◌||◌, cond, refl, sym, ◌⊎◌, inl, inr, ◌≢◌, arith}
+use Rattle.facts_main.proofs.Words.{lit<, prime, felt_add, felt_mul, felt_sub, Op, is_op, List, slice_index, Spot, HasOps, u32_values, ⊎_elim}
 use Rattle.vm_ops.specs.declared.op.Op.TheVariants as ops
 use Rattle.air_kit.specs.U32Values.{limbs, takes_two, takes_three, two_left, entry_140, entry_141, entry_142, entry_143, entry_144, entry_145, entry_146, entry_147}
-use Rattle.facts_main.specs.Limbs.{has_second, has_third, has_high_word}
-use Rattle.facts_main.proofs.Says.{Says, says_of, says_as, never, rest_low, none_is, zero_says, sub_says, sub_twice_says, bit_says, mul_says, gate_says, gate_product_says, regate, sum_says, either_or}
+use Rattle.facts_main.specs.Limbs.{ShowsLimbs, has_second, has_third, has_high_word}
+use Rattle.facts_main.proofs.Says.{Says, says_as, off, rest_low, rest_says, zero_says, sub_says, sub_twice_says, bit_says, mul_says, gate, gate_product_if, one, one_product, both, both_say, either_or}
 use Rattle.facts_main.proofs.Hot.{hot}
-use Rattle.facts_main.proofs.BlockFacts.{Low}
-
--- ---- sums of values of which at most one counts
-
-pub record Gated (any : Bool) (value : ℕ) (P : Type 0) : Type 0 where
-  pub says : Says value P
-  pub none_where : any ≡ false → value ≡ 0
-
-gate_off : (t : Bool) (v : ℕ) → t ≡ false → felt_mul (cond t 1 0) v ≡ 0
-gate_off true v e = never e
-gate_off false v e = none_is v
-
-gated : {v : ℕ} {P : Type 0} (t : Bool) → Says v P → Gated t (felt_mul (cond t 1 0) v) (t ≡ true → P)
-gated {v = v} t s = record { says = gate_says t s; none_where = gate_off t v }
-
-gated_more : {v z : ℕ} {P Q : Type 0} (any t : Bool) → any && t ≡ false → Gated any v P → Says z Q
-    → Gated (any || t) (felt_add v (felt_mul (cond t 1 0) z)) (P × (t ≡ true → Q))
-gated_more {v = v} {z = z} any t apart g s = record {
-  says = sum_says (one_off any t apart g.none_where) g.says
-      (gate_says t s);
-  none_where = both_off any t g.none_where;
-}
-  where
-    one_off : (a u : Bool) → a && u ≡ false → (a ≡ false → v ≡ 0) → (v ≡ 0) ⊎ (felt_mul (cond u 1 0) z ≡ 0)
-    one_off a false e k = inr (none_is z)
-    one_off false true e k = inl (k refl)
-    one_off true true e k = never e
-
-    both_off : (a u : Bool) → (a ≡ false → v ≡ 0) → a || u ≡ false → felt_add v (felt_mul (cond u 1 0) z) ≡ 0
-    both_off true u k e = never e
-    both_off false true k e = never e
-    both_off false false k e = ap (λ n. felt_add n (felt_mul 0 z)) (k refl) ∙ ap (felt_add 0) (none_is z)
+use Rattle.facts_main.proofs.Means.{Means, ◌▸◌, ◌&◌, means_as, nothing}
+use Rattle.facts_main.proofs.SpotSays.{row_at, pair_at}
 
 -- ---- flags as tests
 
@@ -52,7 +22,7 @@ thirds_is ops.U32Add3 = refl
 thirds_is op = refl
 
 -- those whose low word has the limbs 4 and 5
-abbrev pub leaves_second : Op → Bool
+abbrev leaves_second : Op → Bool
 leaves_second op = is_op op ops.U32Add || is_op op ops.U32Sub || is_op op ops.U32Mul || is_op op ops.U32Div
 
 lows_is : (op : Op) → felt_add (felt_add (felt_add (hot op ops.U32Add) (hot op ops.U32Sub)) (hot op ops.U32Mul)) (hot op ops.U32Div) ≡ cond
@@ -61,7 +31,7 @@ lows_is ops.U32Add = refl
 lows_is op = refl
 
 -- those whose high word has the limbs 6 and 7
-abbrev pub leaves_fourth : Op → Bool
+abbrev leaves_fourth : Op → Bool
 leaves_fourth op = is_op op ops.U32Mul || is_op op ops.U32Div
 
 highs_is : (op : Op) → felt_add (hot op ops.U32Mul) (hot op ops.U32Div) ≡ cond (leaves_fourth op) 1 0
@@ -80,37 +50,25 @@ left_low : (y : List ℕ) → two_left y < prime
 unfolding two_left
 left_low y = rest_low _
 
--- ---- the row
+-- ---- differences of several
 
-pub says_140 : (op : Op) (x : List ℕ) → Low x → Says (entry_140 (hot op) x) (has_second op ≡ true → s x 0 ≡ limbs 0 x)
-unfolding entry_140
-says_140 op x low =
-    says_of (ap (λ n. felt_mul n (felt_sub (s x 0) (limbs 0 x))) (seconds_is op))
-    (gate_says (has_second op) (sub_says (s x 0) (limbs 0 x) (low 30) (limbs_low 0 x)))
-
-pub says_141 : (op : Op) (x : List ℕ) → Low x → Says (entry_141 (hot op) x) (has_second op ≡ true → s x 1 ≡ limbs 2 x)
-unfolding entry_141
-says_141 op x low =
-    says_of (ap (λ n. felt_mul n (felt_sub (s x 1) (limbs 2 x))) (seconds_is op))
-    (gate_says (has_second op) (sub_says (s x 1) (limbs 2 x) (low 31) (limbs_low 2 x)))
-
-pub says_142 : (op : Op) (x : List ℕ) → Low x → Says (entry_142 (hot op) x) (has_third op ≡ true → s x 2 ≡ limbs 4 x)
-unfolding entry_142
-says_142 op x low =
-    says_of (ap (λ n. felt_mul n (felt_sub (s x 2) (limbs 4 x))) (thirds_is op))
-    (gate_says (has_third op) (sub_says (s x 2) (limbs 4 x) (low 32) (limbs_low 4 x)))
-
-three_less : (i j k l : ℕ) → i < prime → j < prime → k < prime → l < prime
+three_less : {i j k l : ℕ} → i < prime → j < prime → k < prime → l < prime
     → Says (felt_sub (felt_sub (felt_sub i j) k) l) (i ≡ felt_add (felt_add j k) l)
-three_less i j k l hi hj hk hl =
-    record { low = rest_low _; shown = λ z. omega (arith, hi, hj, hk, hl, z); zero_where = λ e. omega (arith, hi, hj, hk, hl, e) }
+three_less hi hj hk hl = rest_says _ (λ z. omega arith) (λ e. omega arith)
 
-pub says_147 : (op : Op) (x : List ℕ) → Low x
-    → Says (entry_147 (hot op) x) (is_op op ops.U32Div ≡ true → s x 0 ≡ felt_add (felt_add (limbs 6 x) 1) (limbs 8 x))
-unfolding entry_147
-says_147 op x low = gate_says (is_op op ops.U32Div) (three_less (s x 0) (limbs 6 x) 1 (limbs 8 x) (low 30) (limbs_low 6 x) (lit< tt) (limbs_low 8 x))
+borrow_says : {i j k m : ℕ} → i < prime → j < prime → k < prime → m < prime
+    → Says (felt_add (felt_sub (felt_sub i j) k) m) (felt_add i m ≡ felt_add j k)
+borrow_says hi hj hk hm = rest_says _ (λ z. omega arith) (λ e. omega arith)
 
--- ---- the row behind it
+one_of : {v m : ℕ} → v < prime → m < prime → Says (felt_mul (felt_sub 1 m) v) (v ≢ 0 → m ≡ 1)
+one_of {v = v} {m = m} lv lm =
+    says_as (mul_says (sub_says (lit< tt) lm) (zero_says lv)) from (λ f. ⊎_elim (λ e. inr e) (λ apart. inl (sym (f apart))) (either_or v 0))
+  where
+    from : (1 ≡ m) ⊎ (v ≡ 0) → v ≢ 0 → m ≡ 1
+    from (inl e) apart = sym e
+    from (inr e) apart = absurd (apart e)
+
+-- ---- at most one operation counts
 
 split_or_low : (op : Op) → is_op op ops.U32Split && leaves_second op ≡ false
 split_or_low ops.U32Split = refl
@@ -120,31 +78,17 @@ low_or_third : (op : Op) → (is_op op ops.U32Split || leaves_second op) && has_
 low_or_third ops.U32Split = refl
 low_or_third op = refl
 
-pub says_143 : (op next : Op) (x y : List ℕ) → Low y
-    → Says (entry_143 (hot op) (hot next) x y)
-    (((is_op op ops.U32Split ≡ true → s y 1 ≡ limbs 0 x) × (leaves_second op ≡ true → s y 1 ≡ limbs 4 x)) × (has_third op ≡ true → s y 1 ≡ limbs 6 x))
-unfolding entry_143
-says_143 op next x y low =
-    says_of
-    (ap₂ (λ n m. felt_add (felt_add (felt_mul (hot op ops.U32Split) (felt_sub (s y 1) (limbs 0 x))) (felt_mul n (felt_sub (s y 1) (limbs 4 x))))
-    (felt_mul m (felt_sub (s y 1) (limbs 6 x)))) (lows_is op) (thirds_is op))
-    (gated_more (is_op op ops.U32Split || leaves_second op) (has_third op) (low_or_third op)
-    (gated_more (is_op op ops.U32Split) (leaves_second op) (split_or_low op)
-    (gated (is_op op ops.U32Split) (sub_says (s y 1) (limbs 0 x) (low 31) (limbs_low 0 x)))
-    (sub_says (s y 1) (limbs 4 x) (low 31) (limbs_low 4 x)))
-    (sub_says (s y 1) (limbs 6 x) (low 31) (limbs_low 6 x))).says
-
 -- the tests of the entries of high words, one after another
-abbrev pub high_2 : Op → Bool
+abbrev high_2 : Op → Bool
 high_2 op = is_op op ops.U32Split || is_op op ops.U32Add
 
-abbrev pub high_3 : Op → Bool
+abbrev high_3 : Op → Bool
 high_3 op = high_2 op || is_op op ops.U32Add3
 
-abbrev pub high_4 : Op → Bool
+abbrev high_4 : Op → Bool
 high_4 op = high_3 op || is_op op ops.U32Sub
 
-abbrev pub high_5 : Op → Bool
+abbrev high_5 : Op → Bool
 high_5 op = high_4 op || leaves_fourth op
 
 apart_2 : (op : Op) → is_op op ops.U32Split && is_op op ops.U32Add ≡ false
@@ -167,38 +111,14 @@ apart_6 : (op : Op) → high_5 op && is_op op ops.U32MAdd ≡ false
 apart_6 ops.U32Split = refl
 apart_6 op = refl
 
-pub says_144 : (op next : Op) (x y : List ℕ) → Low x → Low y
-    → Says (entry_144 (hot op) (hot next) x y)
-    ((((((is_op op ops.U32Split ≡ true → s y 0 ≡ limbs 2 x) × (is_op op ops.U32Add ≡ true → s y 0 ≡ t x 6))
-    × (is_op op ops.U32Add3 ≡ true → s y 0 ≡ t x 8))
-    × (is_op op ops.U32Sub ≡ true → s y 0 < 2)) × (leaves_fourth op ≡ true → s y 0 ≡ limbs 6 x)) × (is_op op ops.U32MAdd ≡ true → s y 0 ≡ limbs 8 x))
-unfolding entry_144
-says_144 op next x y low low_next =
-    says_of
-    (ap₂ (λ n m. felt_add (felt_add (felt_add (felt_add (felt_add (felt_mul (hot op ops.U32Split) (felt_sub (s y 0) (limbs 2 x)))
-    (felt_mul (hot op ops.U32Add) (felt_sub (s y 0) (t x 6)))) (felt_mul (hot op ops.U32Add3) (felt_sub (s y 0) (t x 8)))) n)
-    (felt_mul m (felt_sub (s y 0) (limbs 6 x)))) (felt_mul (hot op ops.U32MAdd) (felt_sub (s y 0) (limbs 8 x))))
-    (regate (is_op op ops.U32Sub) (s y 0) (felt_sub (s y 0) 1) (low_next 30)) (highs_is op))
-    (gated_more (high_5 op) (is_op op ops.U32MAdd) (apart_6 op)
-    (gated_more (high_4 op) (leaves_fourth op) (apart_5 op)
-    (gated_more (high_3 op) (is_op op ops.U32Sub) (apart_4 op)
-    (gated_more (high_2 op) (is_op op ops.U32Add3) (apart_3 op)
-    (gated_more (is_op op ops.U32Split) (is_op op ops.U32Add) (apart_2 op)
-    (gated (is_op op ops.U32Split) (sub_says (s y 0) (limbs 2 x) (low_next 30) (limbs_low 2 x)))
-    (sub_says (s y 0) (t x 6) (low_next 30) (low 61)))
-    (sub_says (s y 0) (t x 8) (low_next 30) (low 63)))
-    (bit_says (s y 0) (low_next 30)))
-    (sub_says (s y 0) (limbs 6 x) (low_next 30) (limbs_low 6 x)))
-    (sub_says (s y 0) (limbs 8 x) (low_next 30) (limbs_low 8 x))).says
-
 -- the tests of the entry of both words, one after another
-abbrev pub whole_4 : Op → Bool
+abbrev whole_4 : Op → Bool
 whole_4 op = high_3 op || is_op op ops.U32Mul
 
-abbrev pub whole_5 : Op → Bool
+abbrev whole_5 : Op → Bool
 whole_5 op = whole_4 op || is_op op ops.U32MAdd
 
-abbrev pub whole_6 : Op → Bool
+abbrev whole_6 : Op → Bool
 whole_6 op = whole_5 op || is_op op ops.U32Sub
 
 whole_apart_4 : (op : Op) → high_3 op && is_op op ops.U32Mul ≡ false
@@ -217,45 +137,120 @@ whole_apart_7 : (op : Op) → whole_6 op && is_op op ops.U32Div ≡ false
 whole_apart_7 ops.U32Split = refl
 whole_apart_7 op = refl
 
-borrow_says : (i j k m : ℕ) → i < prime → j < prime → k < prime → m < prime
-    → Says (felt_add (felt_sub (felt_sub i j) k) m) (felt_add i m ≡ felt_add j k)
-borrow_says i j k m hi hj hk hm =
-    record { low = rest_low _; shown = λ z. omega (arith, hi, hj, hk, hm, z); zero_where = λ e. omega (arith, hi, hj, hk, hm, e) }
+-- ---- tests of several operations
 
-pub says_145 : (op next : Op) (x y : List ℕ) → Low x → Low y
-    → Says (entry_145 (hot op) (hot next) x y)
-    (((((((is_op op ops.U32Split ≡ true → s x 0 ≡ two_left y) × (is_op op ops.U32Add ≡ true → felt_add (s x 0) (s x 1) ≡ two_left y))
-    × (is_op op ops.U32Add3 ≡ true → felt_add (felt_add (s x 0) (s x 1)) (s x 2) ≡ two_left y))
-    × (is_op op ops.U32Mul ≡ true → felt_mul (s x 0) (s x 1) ≡ two_left y))
-    × (is_op op ops.U32MAdd ≡ true → felt_add (felt_mul (s x 0) (s x 1)) (s x 2) ≡ two_left y))
-    × (is_op op ops.U32Sub ≡ true → felt_add (s x 1) (felt_mul (2 ^ 32) (s y 0)) ≡ felt_add (s x 0) (s y 1)))
-    × (is_op op ops.U32Div ≡ true → s x 1 ≡ felt_add (felt_mul (s x 0) (s y 1)) (s y 0)))
-unfolding entry_145
-says_145 op next x y low low_next =
-    (gated_more (whole_6 op) (is_op op ops.U32Div) (whole_apart_7 op)
-    (gated_more (whole_5 op) (is_op op ops.U32Sub) (whole_apart_6 op)
-    (gated_more (whole_4 op) (is_op op ops.U32MAdd) (whole_apart_5 op)
-    (gated_more (high_3 op) (is_op op ops.U32Mul) (whole_apart_4 op)
-    (gated_more (high_2 op) (is_op op ops.U32Add3) (apart_3 op)
-    (gated_more (is_op op ops.U32Split) (is_op op ops.U32Add) (apart_2 op)
-    (gated (is_op op ops.U32Split) (sub_says (s x 0) (two_left y) (low 30) (left_low y)))
-    (sub_says (felt_add (s x 0) (s x 1)) (two_left y) (rest_low _) (left_low y)))
-    (sub_says (felt_add (felt_add (s x 0) (s x 1)) (s x 2)) (two_left y) (rest_low _) (left_low y)))
-    (sub_says (felt_mul (s x 0) (s x 1)) (two_left y) (rest_low _) (left_low y)))
-    (sub_says (felt_add (felt_mul (s x 0) (s x 1)) (s x 2)) (two_left y) (rest_low _) (left_low y)))
-    (borrow_says (s x 1) (s x 0) (s y 1) (felt_mul (2 ^ 32) (s y 0)) (low 31) (low 30) (low_next 31) (rest_low _)))
-    (sub_twice_says (s x 1) (felt_mul (s x 0) (s y 1)) (s y 0) (low 31) (rest_low _) (low_next 30))).says
+first_of_two : (a b : Bool) → a ≡ true → a || b ≡ true
+first_of_two true b e = refl
+first_of_two false b e = off e
 
-one_of : (v m : ℕ) → (1 ≡ m) ⊎ (v ≡ 0) → v ≢ 0 → m ≡ 1
-one_of v m (inl e) apart = sym e
-one_of v m (inr e) apart = absurd (apart e)
+second_of_two : (a b : Bool) → b ≡ true → a || b ≡ true
+second_of_two true b e = refl
+second_of_two false b e = e
 
-pub says_146 : (op next : Op) (x y : List ℕ) → Low y
-    → Says (entry_146 (hot op) (hot next) x y) (has_high_word op ≡ true → s y 1 ≢ 0 → felt_mul (felt_sub (2 ^ 32 - 1) (s y 0)) (w x 0) ≡ 1)
-unfolding entry_146
-says_146 op next x y low =
-    says_of (ap (λ n. felt_mul (felt_mul n (felt_sub 1 (felt_mul (felt_sub (2 ^ 32 - 1) (s y 0)) (w x 0)))) (s y 1)) (words_is op))
-    (gate_product_says (has_high_word op) (felt_sub 1 (felt_mul (felt_sub (2 ^ 32 - 1) (s y 0)) (w x 0))) (s y 1) (rest_low _)
-    (says_as (mul_says (sub_says 1 (felt_mul (felt_sub (2 ^ 32 - 1) (s y 0)) (w x 0)) (lit< tt) (rest_low _)) (zero_says (s y 1) (low 31)))
-    (one_of (s y 1) (felt_mul (felt_sub (2 ^ 32 - 1) (s y 0)) (w x 0)))
-    (λ f. ⊎_elim (λ e. inr e) (λ apart. inl (sym (f apart))) (either_or (s y 1) 0))))
+from_two : {Q : Type 0} (a b : Bool) → (a ≡ true → Q) → (b ≡ true → Q) → a || b ≡ true → Q
+from_two true b f g e = f refl
+from_two false b f g e = g e
+
+-- the low words and the high ones, by operation
+add_low : (op : Op) → is_op op ops.U32Add ≡ true → leaves_second op ≡ true
+add_low op e =
+    first_of_two _ (is_op op ops.U32Div)
+    (first_of_two _ (is_op op ops.U32Mul) (first_of_two (is_op op ops.U32Add) (is_op op ops.U32Sub) e))
+
+sub_low : (op : Op) → is_op op ops.U32Sub ≡ true → leaves_second op ≡ true
+sub_low op e =
+    first_of_two _ (is_op op ops.U32Div)
+    (first_of_two _ (is_op op ops.U32Mul) (second_of_two (is_op op ops.U32Add) (is_op op ops.U32Sub) e))
+
+mul_low : (op : Op) → is_op op ops.U32Mul ≡ true → leaves_second op ≡ true
+mul_low op e = first_of_two _ (is_op op ops.U32Div) (second_of_two (is_op op ops.U32Add || is_op op ops.U32Sub) (is_op op ops.U32Mul) e)
+
+div_low : (op : Op) → is_op op ops.U32Div ≡ true → leaves_second op ≡ true
+div_low op e = second_of_two (is_op op ops.U32Add || is_op op ops.U32Sub || is_op op ops.U32Mul) (is_op op ops.U32Div) e
+
+-- ---- the entries
+
+pub limb_means : (op : Op) (p : Spot) → HasOps op p → Means (u32_values p) (ShowsLimbs op p)
+unfolding u32_values entry_140 entry_141 entry_142 entry_143 entry_144 entry_145 entry_146 entry_147
+limb_means op p r =
+    means_as
+    (row_at entry_140 r (gate (seconds_is op) (sub_says (low 30) (limbs_low 0 x)))
+    ▸ row_at entry_141 r (gate (seconds_is op) (sub_says (low 31) (limbs_low 2 x)))
+    ▸ row_at entry_142 r (gate (thirds_is op) (sub_says (low 32) (limbs_low 4 x)))
+    ▸ pair_at entry_143 r (λ y n. both_say
+    (both (one refl (sub_says (n.low 31) (limbs_low 0 x))) (one (lows_is op) (sub_says (n.low 31) (limbs_low 4 x))) (split_or_low op))
+    (one (thirds_is op) (sub_says (n.low 31) (limbs_low 6 x))) (low_or_third op))
+    ▸ pair_at entry_144 r (λ y n. both_say (both (both (both (both
+    (one refl (sub_says (n.low 30) (limbs_low 2 x))) (one refl (sub_says (n.low 30) (low 61))) (apart_2 op))
+    (one refl (sub_says (n.low 30) (low 63))) (apart_3 op)) (one_product _ _ refl (bit_says (n.low 30))) (apart_4 op))
+    (one (highs_is op) (sub_says (n.low 30) (limbs_low 6 x))) (apart_5 op)) (one refl (sub_says (n.low 30) (limbs_low 8 x))) (apart_6 op))
+    ▸ pair_at entry_145 r (λ y n. both_say (both (both (both (both (both
+    (one refl (sub_says (low 30) (left_low y))) (one refl (sub_says (rest_low _) (left_low y))) (apart_2 op))
+    (one refl (sub_says (rest_low _) (left_low y))) (apart_3 op)) (one refl (sub_says (rest_low _) (left_low y))) (whole_apart_4 op))
+    (one refl (sub_says (rest_low _) (left_low y))) (whole_apart_5 op))
+    (one refl (borrow_says (low 31) (low 30) (n.low 31) (rest_low _))) (whole_apart_6 op))
+    (one refl (sub_twice_says (low 31) (rest_low _) (n.low 30))) (whole_apart_7 op))
+    ▸ pair_at entry_146 r (λ y n. gate_product_if _ _ (words_is op) (λ is. one_of (n.low 31) (rest_low _)))
+    ▸ row_at entry_147 r (gate refl (three_less (low 30) (limbs_low 6 x) (lit< tt) (limbs_low 8 x))) ▸ nothing)
+    (λ (first, (second, (third, (lows, (highs, (wholes, (one_way, (remainder, done)))))))). record {
+      row = record { first = first; second = second; third = third; remainder = remainder };
+      pair = λ y e. record {
+        splits = λ is. record { low = (lows y e).0.0 is; high = (highs y e).0.0.0.0.0 is; whole = (wholes y e).0.0.0.0.0.0 is };
+        adds = λ is. record { low = (lows y e).0.1 (add_low op is); high = (highs y e).0.0.0.0.1 is; whole = (wholes y e).0.0.0.0.0.1 is };
+        adds_three = λ is. record {
+          low = (lows y e).1 (first_of_two _ (is_op op ops.U32MAdd) is);
+          high = (highs y e).0.0.0.1 is;
+          whole = (wholes y e).0.0.0.0.1 is;
+        };
+        subtracts = λ is. record { low = (lows y e).0.1 (sub_low op is); borrow = (highs y e).0.0.1 is; whole = (wholes y e).0.1 is };
+        multiplies = λ is. record {
+          low = (lows y e).0.1 (mul_low op is);
+          high = (highs y e).0.1 (first_of_two _ (is_op op ops.U32Div) is);
+          whole = (wholes y e).0.0.0.1 is;
+        };
+        multiplies_and_adds = λ is. record {
+          low = (lows y e).1 (second_of_two (is_op op ops.U32Add3) _ is);
+          high = (highs y e).1 is;
+          whole = (wholes y e).0.0.1 is;
+        };
+        divides = λ is. record {
+          quotient = (lows y e).0.1 (div_low op is);
+          remainder = (highs y e).0.1 (second_of_two (is_op op ops.U32Mul) _ is);
+          whole = (wholes y e).1 is;
+        };
+        one_way = one_way y e;
+      };
+    })
+    (λ shows. shows.row.first & shows.row.second & shows.row.third
+    & (λ y e. let m = shows.pair y e in (
+      (
+        λ is. (m.splits is).low,
+        from_two _ _ (from_two _ _ (from_two _ _ (λ is. (m.adds is).low) (λ is. (m.subtracts is).low)) (λ is. (m.multiplies is).low))
+            (λ is. (m.divides is).quotient),
+      ),
+      from_two _ _ (λ is. (m.adds_three is).low) (λ is. (m.multiplies_and_adds is).low),
+    ))
+    & (λ y e. let m = shows.pair y e in (
+      (
+        (((λ is. (m.splits is).high, λ is. (m.adds is).high), λ is. (m.adds_three is).high), λ is. (m.subtracts is).borrow),
+        from_two _ _ (λ is. (m.multiplies is).high) (λ is. (m.divides is).remainder),
+      ),
+      λ is. (m.multiplies_and_adds is).high,
+    ))
+    & (λ y e. let m = shows.pair y e in (
+      (
+        (
+          (((λ is. (m.splits is).whole, λ is. (m.adds is).whole), λ is. (m.adds_three is).whole), λ is. (m.multiplies is).whole),
+          λ is. (m.multiplies_and_adds is).whole,
+        ),
+        λ is. (m.subtracts is).whole,
+      ),
+      λ is. (m.divides is).whole,
+    ))
+    & (λ y e. (shows.pair y e).one_way) & shows.row.remainder & tt)
+  where
+    x : List ℕ
+    x = p.cur
+
+    low : (j : ℕ) → slice_index x j < prime
+    low = r.here.low

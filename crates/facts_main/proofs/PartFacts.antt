@@ -1,22 +1,19 @@
--- The four parts of the entries of the main table.
-use Rattle.facts_main.proofs.Words.{◌++◌, dyn_values, decoder_values, main_values, Claim, Spot, stack_values, u32_values, AllZero}
-use Rattle.facts_main.proofs.Zeros.{zero_back, zero_both, zero_front}
+-- The parts of the entries of the main table.
+use Rattle.facts_main.proofs.Words.{◌++◌, List, ℕ, dyn_values, decoder_values, main_values, Claim, Spot, opcode_values, stack_values, u32_values, AllZero}
+use Rattle.air_kit.specs.BoundaryValues.{boundary_values}
+use Rattle.air_kit.specs.BlockValues.{block_values}
+use Rattle.air_kit.specs.SpanValues.{span_values}
+use Rattle.facts_main.proofs.Means.{Means, ◌⧺◌, means_as, whole}
 
-pub parts_shown : (k : Claim) (p : Spot) → AllZero (main_values k p)
-    → AllZero (decoder_values k p) × AllZero (stack_values p) × AllZero (u32_values p) × AllZero (dyn_values p)
-unfolding main_values
-parts_shown k p zeros =
-    let rest = zero_back (decoder_values k p) (stack_values p ++ (u32_values p ++ dyn_values p)) zeros in
-    let last = zero_back (stack_values p) (u32_values p ++ dyn_values p) rest in (
-      zero_front (decoder_values k p) (stack_values p ++ (u32_values p ++ dyn_values p)) zeros,
-      zero_front (stack_values p) (u32_values p ++ dyn_values p) rest,
-      zero_front (u32_values p) (dyn_values p) last,
-      zero_back (u32_values p) (dyn_values p) last,
-    )
+four_parts : (a b c d : List ℕ) → Means (a ++ (b ++ (c ++ d))) (AllZero a × AllZero b × AllZero c × AllZero d)
+four_parts a b c d = means_as (whole a ⧺ whole b ⧺ whole c ⧺ whole d) (λ h. (h.0, h.1.0, h.1.1.0, h.1.1.1)) (λ h. (h.0, (h.1, (h.2, h.3))))
 
-pub whole_zero : (k : Claim) (p : Spot) → AllZero (decoder_values k p) → AllZero (stack_values p) → AllZero (u32_values p) → AllZero (dyn_values p)
-    → AllZero (main_values k p)
+pub parts : (k : Claim) (p : Spot)
+    → Means (main_values k p) (AllZero (decoder_values k p) × AllZero (stack_values p) × AllZero (u32_values p) × AllZero (dyn_values p))
 unfolding main_values
-whole_zero k p decoder stack u32 dyn =
-    zero_both (decoder_values k p) (stack_values p ++ (u32_values p ++ dyn_values p)) decoder
-    (zero_both (stack_values p) (u32_values p ++ dyn_values p) stack (zero_both (u32_values p) (dyn_values p) u32 dyn))
+parts k p = four_parts _ _ _ _
+
+pub decoder_parts : (k : Claim) (p : Spot)
+    → Means (decoder_values k p) (AllZero (opcode_values p) × AllZero (boundary_values k p) × AllZero (block_values p) × AllZero (span_values p))
+unfolding decoder_values
+decoder_parts k p = four_parts _ _ _ _

@@ -49,7 +49,7 @@ none_left true = refl
 none_left false = refl
 
 pub nothing_left : (op : Op) (x : List ℕ) → ReadsAs op x → IsGroupRow op x → eqb (rest_flag x) 0 ≡ eqb (h x 0) (code_of op)
-nothing_left op x reads row = ap (λ n. eqb n 0) (flag_is op x reads.has reads.low row) ∙ none_left (eqb (h x 0) (code_of op))
+nothing_left op x reads row = ap (λ n. eqb n 0) (flag_is op x reads.has reads.low row.witness) ∙ none_left (eqb (h x 0) (code_of op))
 
 pub shifts_left_is : (x : List ℕ) → row_shifts_left x ≡ is_left (mover (op_of x) x)
 shifts_left_is x = mover_left (op_of x) (eqb (h x 4) 1)

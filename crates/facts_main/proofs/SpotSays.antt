@@ -5,6 +5,10 @@ use Rattle.facts_main.proofs.Words.{ReadsAs}
 use Rattle.facts_main.proofs.Says.{Says}
 use Rattle.facts_main.proofs.Hot.{hot, row_says, pair_says}
 
+-- what holds of the row behind, if there is one
+abbrev pub Behind : Spot → (List ℕ → Type 0) → Type 0
+Behind p P = (y : List ℕ) → p.next ≡ Some y → P y
+
 pub row_at : {op : Op} {p : Spot} {P : Type 0} (entry : RowEntry) → HasOps op p → Says (entry (hot op) p.cur) P → Says (on_row entry p) P
 row_at entry r s = row_says entry r.here.has s
 
@@ -62,5 +66,5 @@ between_says {P = P} entry x (Some y) s =
 
 pub pair_at : {op : Op} {p : Spot} {P : List ℕ → Type 0} (entry : PairEntry) → HasOps op p
     → ((y : List ℕ) → ReadsAs (op_of y) y → Says (entry (hot op) (hot (op_of y)) p.cur y) (P y))
-    → Says (on_pair entry p) ((y : List ℕ) → p.next ≡ Some y → P y)
+    → Says (on_pair entry p) (Behind p P)
 pair_at {p = p} entry r s = between_says entry p.cur p.next (λ y e. pair_says entry r.here.has (r.behind y e).has (s y (r.behind y e)))

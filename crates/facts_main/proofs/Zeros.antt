@@ -31,13 +31,3 @@ unfolding family
 zero_of_family zero value each k = refl
 zero_of_family (suc n) value each zero = each 0 (omega arith)
 zero_of_family (suc n) value each (suc k) = zero_of_family n (λ j. value (suc j)) (λ j h. each (suc j) (omega (arith, h))) k
-
--- each value of a list is 0, one by one
-abbrev pub Each : List ℕ → Type 0
-Each [] = Unit {0}
-Each (v ∷ vs) = (v ≡ 0) × Each vs
-
-pub each_zero : (values : List ℕ) → Each values → AllZero values
-each_zero [] each k = refl
-each_zero (v ∷ vs) each zero = each.0
-each_zero (v ∷ vs) each (suc k) = each_zero vs each.1 k

@@ -9,7 +9,6 @@ pub mod Tops
 pub mod Outside
 pub mod Numbers
 pub mod Products
-pub mod WordValues
 pub mod WordOperands
 pub mod NumberLaw
 pub mod WordTops
@@ -22,3 +21,4 @@ pub mod OutsideFills
 pub mod Fills
 pub mod Places
 pub mod Words
+pub mod Tests

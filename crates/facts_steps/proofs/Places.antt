@@ -1,15 +1,18 @@
 -- What the rows of a table do not show, from one row to the next.
-use Rattle.facts_steps.proofs.Words.{◌≡◌, ◌≢◌, ℕ, zero, suc, ◌+◌, ◌<◌, Bool, true, false, ◌&&◌, ◌||◌, cond, eqb, List, [], ◌∷◌, ◌++◌, drop, length}
-use Rattle.facts_steps.proofs.Words.{slice_index, refl, ap, sym, subst, ◌∙◌, ⊎_elim, arith, nat_tests, nil_from_length, shift_of, Op, Shift, Left, Stay}
-use Rattle.facts_steps.proofs.Words.{Right, h, s, depth, number_of_constants, felt_add, is_left, is_right, is_shift, op_of, is_call_op, row_shifts_left}
-use Rattle.facts_steps.proofs.Words.{taken_by, either_or, ShiftsCells, GoesOnBy, ShowsStep, IsPlace}
+use Rattle.facts_steps.proofs.Words
+use Words.{◌≡◌, ◌≢◌, ℕ, zero, suc, ◌+◌, ◌<◌, Bool, true, false, ◌&&◌, ◌||◌, cond, eqb, List, [], ◌∷◌, ◌++◌, drop, length, slice_index, refl, ap, sym, subst}
+use Words.{◌∙◌, arith, shift_of, Op, Shift, Left, Stay, Right, h, s, depth, number_of_constants, felt_add, is_left}
+use Words.{is_shift, row_shifts_left, taken_by, ShiftsCells, GoesOnBy, ShowsStep, IsPlace}
+use Rattle.std.proofs.lemmas.Bool.{eqb-false, eqb-true}
+use Rattle.air_kit.specs.Flags.{op_of}
 use Rattle.air_kit.specs.Places.{Claim}
 use Rattle.air_kit.specs.RowStates.{Overflow, overflow_behind, overflow_at, brought_back, row_returns, memory_at, tape_of, elsewhere_at}
 use Rattle.vm_table.specs.Layout.{row_at}
 use Rattle.facts_main.specs.MainRows.{ShowsRows, op_in}
 use Rattle.facts_steps.proofs.Ordinary.{IsOrdinary, ordinary, mover_is}
-use Rattle.facts_steps.proofs.Shifts.{Behind, below_from}
+use Rattle.facts_steps.proofs.Shifts.{Behind, below_from, none_below}
 use Rattle.facts_steps.proofs.Steps.{rows_show}
+use Rattle.facts_steps.proofs.Tests.{or_none}
 
 -- ---- the cells below the sixteenth
 
@@ -20,21 +23,9 @@ below_by right left flat call returns x o =
     (cond left (cond flat o (record o { below = drop 1 o.below }))
     (cond call (record { below = []; aside = o.below ∷ o.aside }) (cond returns (brought_back o.aside) o)))
 
-is_same : (i n : ℕ) → i ≡ n → eqb i n ≡ true
-is_same i n e = grind (arith, nat_tests)
-
-is_other : (i n : ℕ) → i ≢ n → eqb i n ≡ false
-is_other i n e = grind (arith, nat_tests)
-
-tests_same : (r l c e r1 l1 c1 e1 : Bool) (x : List ℕ) (o : Overflow) → r ≡ r1 → l ≡ l1 → c ≡ c1 → e ≡ e1
+tests_same : (x : List ℕ) (o : Overflow) {r l c e r1 l1 c1 e1 : Bool} → r ≡ r1 → l ≡ l1 → c ≡ c1 → e ≡ e1
     → below_by r l (eqb (depth x) 16) c e x o ≡ below_by r1 l1 (eqb (depth x) 16) c1 e1 x o
-tests_same r l c e r1 l1 c1 e1 x o er el ec ee =
-    ap (λ u. below_by u l (eqb (depth x) 16) c e x o) er ∙ ap (λ u. below_by r1 u (eqb (depth x) 16) c e x o) el
-    ∙ ap (λ u. below_by r1 l1 (eqb (depth x) 16) u e x o) ec ∙ ap (λ u. below_by r1 l1 (eqb (depth x) 16) c1 u x o) ee
-
-or_false : (t : Bool) → t || false ≡ t
-or_false true = refl
-or_false false = refl
+tests_same x o er el ec ee = λ i. below_by (er i) (el i) (eqb (depth x) 16) (ec i) (ee i) x o
 
 pub overflow_goes : (x y : List ℕ) (o : Overflow) → IsOrdinary (op_of x) → depth x ≡ 16 + length o.below
     → (is_left (op_of x) ≡ true → depth x ≢ 16 → s y 15 ≡ slice_index o.below 0) → (is_left (op_of x) ≡ true → depth x ≡ 16 → s y 15 ≡ 0)
@@ -42,7 +33,7 @@ pub overflow_goes : (x y : List ℕ) (o : Overflow) → IsOrdinary (op_of x) →
 overflow_goes x y o k deep finds flat_is = go (shift_of (op_of x)) refl
   where
     lefts : row_shifts_left x ≡ is_left (op_of x)
-    lefts = ap (λ u. is_left (op_of x) || (u && eqb (h x 4) 1)) k.not_end ∙ or_false (is_left (op_of x))
+    lefts = ap (λ u. is_left (op_of x) || (u && eqb (h x 4) 1)) k.not_end ∙ or_none refl
 
     returns : row_returns x ≡ false
     returns = ap (λ u. u && eqb (felt_add (h x 6) (h x 7)) 1) k.not_end
@@ -50,31 +41,20 @@ overflow_goes x y o k deep finds flat_is = go (shift_of (op_of x)) refl
     by : (shift : Shift) → shift_of (op_of x) ≡ shift
         → (overflow_behind x o).below ≡ (below_by (is_shift Right shift) (is_shift Left shift) (eqb (depth x) 16) false false x o).below
     by shift e =
-        ap (λ (u : Overflow). u.below)
-        (tests_same (is_right (op_of x)) (row_shifts_left x) (is_call_op (op_of x)) (row_returns x) (is_shift Right shift)
-        (is_shift Left shift) false false x o
-        (ap (is_shift Right) e) (lefts ∙ ap (is_shift Left) e) k.not_call returns)
+        ap (λ (u : Overflow). u.below) (tests_same x o (ap (is_shift Right) e) (lefts ∙ ap (is_shift Left) e) k.not_call returns)
 
-    flat : depth x ≡ 16 → (overflow_behind x o).below ≡ (below_by false true (eqb (depth x) 16) false false x o).below
-        → (overflow_behind x o).below ≡ drop 1 o.below
-    flat at e =
-        let none : o.below ≡ [] = nil_from_length o.below (omega (arith, deep, at)) in
-        e ∙ ap (λ u. (below_by false true u false false x o).below) (is_same (depth x) 16 at) ∙ none ∙ ap (drop 1) (sym none)
-
-    more : depth x ≢ 16 → (overflow_behind x o).below ≡ (below_by false true (eqb (depth x) 16) false false x o).below
-        → (overflow_behind x o).below ≡ drop 1 o.below
-    more at e = e ∙ ap (λ u. (below_by false true u false false x o).below) (is_other (depth x) 16 at)
+    flat : (t : Bool) → eqb (depth x) 16 ≡ t → (overflow_behind x o).below ≡ (below_by false true t false false x o).below
+        → is_left (op_of x) ≡ true → ((overflow_behind x o).below ≡ drop 1 o.below) × (s y 15 ≡ slice_index o.below 0)
+    flat true is e left =
+        let at : depth x ≡ 16 = eqb-true (depth x) 16 is in
+        let none : o.below ≡ [] = none_below deep at in
+        (e ∙ none ∙ ap (drop 1) (sym none), flat_is left at ∙ ap (λ (u : List ℕ). slice_index u 0) (sym none))
+    flat false is e left = (e, finds left (eqb-false (depth x) 16 is))
 
     go : (shift : Shift) → shift_of (op_of x) ≡ shift → Behind shift (s x 15) (s y 15) o.below (overflow_behind x o).below
     go Right e = by Right e
     go Stay e = by Stay e
-    go Left e =
-        let left : is_left (op_of x) ≡ true = ap (is_shift Left) e in
-        ⊎_elim
-        (λ at.
-        let none : o.below ≡ [] = nil_from_length o.below (omega (arith, deep, at)) in
-        (flat at (by Left e), flat_is left at ∙ ap (λ (u : List ℕ). slice_index u 0) (sym none)))
-        (λ at. (more at (by Left e), finds left at)) (either_or (depth x) 16)
+    go Left e = flat (eqb (depth x) 16) refl (by Left e) (ap (is_shift Left) e)
 
 -- ---- the tape
 
@@ -99,7 +79,7 @@ place_goes constants deep k rows i shows p =
     let last : is_left (op_of x) ≡ true → depth x ≡ 16 → s y 15 ≡ 0 =
     (subst (λ (m : Op). ShiftsCells m x y) (mover_is (op_of x) x o) pair.stack.shifts).last in
     record {
-      below = below_from (op_of x) x y (overflow_at deep rows i).below (overflow_behind x (overflow_at deep rows i)).below p.here.depth_is
+      below = below_from p.here.depth_is
           (overflow_goes x y (overflow_at deep rows i) o p.here.depth_is p.finds last);
       memory = refl;
       tape = tape_goes rows i p.within;

@@ -1,32 +1,29 @@
 -- What an operation sees of the state of a row.
-use Rattle.facts_steps.proofs.Words.{◌≡◌, ℕ, zero, suc, ◌+◌, ◌<◌, ◌≤◌, List, [], ◌∷◌, ◌++◌, take, drop, length, slice_index, refl, ap, sym, ◌∙◌, arith}
-use Rattle.facts_steps.proofs.Words.{length-append, length-take-le, get_or_append_left, number_of_constants, word_at, IsWord, IsSeenBy, ShowTheSame, seen_at}
-use Rattle.facts_steps.proofs.Words.{Seen, advice_of, Item, s, depth, Elsewhere, state_of, cells, seen_of, function_digest}
+use Rattle.facts_steps.proofs.Words
+use Words.{◌≡◌, ℕ, zero, suc, ◌+◌, ◌<◌, ◌≤◌, List, [], ◌∷◌, ◌++◌, take, drop, length, slice_index, refl, ap, sym, ◌∙◌, arith, length-append, length-take-le}
+use Words.{get_or_append_left, number_of_constants, word_at, IsWord, IsSeenBy, ShowTheSame, seen_at, Seen, advice_of, Item, s, depth, Elsewhere, state_of}
+use Words.{cells, seen_of, function_digest}
 
 abbrev pub seen_by : List ℕ → Item → List ℕ → Elsewhere → Seen
 seen_by constants item x e = seen_at constants item (state_of x e)
 
 -- ---- the cells of a row
 
+-- what is so of each number below another one
+abbrev pub EachBelow : ℕ → (ℕ → Type 0) → Type 0
+EachBelow zero P = Unit {0}
+EachBelow (suc n) P = P 0 × EachBelow n (λ j. P (suc j))
+
+pub below_by : (n : ℕ) (P : ℕ → Type 0) → EachBelow n P → (j : ℕ) → j < n → P j
+below_by zero P each j few = absurd (omega (arith, few))
+below_by (suc n) P each zero few = each.0
+below_by (suc n) P each (suc j) few = below_by n (λ k. P (suc k)) each.1 j (omega (arith, few))
+
 pub cells_index : (x : List ℕ) (j : ℕ) → j < 16 → slice_index (cells x) j ≡ s x j
 unfolding cells
-cells_index x zero few = refl
-cells_index x (suc zero) few = refl
-cells_index x (suc (suc zero)) few = refl
-cells_index x (suc (suc (suc zero))) few = refl
-cells_index x (suc (suc (suc (suc zero)))) few = refl
-cells_index x (suc (suc (suc (suc (suc zero))))) few = refl
-cells_index x (suc (suc (suc (suc (suc (suc zero)))))) few = refl
-cells_index x (suc (suc (suc (suc (suc (suc (suc zero))))))) few = refl
-cells_index x (suc (suc (suc (suc (suc (suc (suc (suc zero)))))))) few = refl
-cells_index x (suc (suc (suc (suc (suc (suc (suc (suc (suc zero))))))))) few = refl
-cells_index x (suc (suc (suc (suc (suc (suc (suc (suc (suc (suc zero)))))))))) few = refl
-cells_index x (suc (suc (suc (suc (suc (suc (suc (suc (suc (suc (suc zero))))))))))) few = refl
-cells_index x (suc (suc (suc (suc (suc (suc (suc (suc (suc (suc (suc (suc zero)))))))))))) few = refl
-cells_index x (suc (suc (suc (suc (suc (suc (suc (suc (suc (suc (suc (suc (suc zero))))))))))))) few = refl
-cells_index x (suc (suc (suc (suc (suc (suc (suc (suc (suc (suc (suc (suc (suc (suc zero)))))))))))))) few = refl
-cells_index x (suc (suc (suc (suc (suc (suc (suc (suc (suc (suc (suc (suc (suc (suc (suc zero))))))))))))))) few = refl
-cells_index x (suc (suc (suc (suc (suc (suc (suc (suc (suc (suc (suc (suc (suc (suc (suc (suc j)))))))))))))))) few = absurd (omega (arith, few))
+cells_index x =
+    below_by 16 (λ j. slice_index (cells x) j ≡ s x j)
+    (refl, (refl, (refl, (refl, (refl, (refl, (refl, (refl, (refl, (refl, (refl, (refl, (refl, (refl, (refl, (refl, tt))))))))))))))))
 
 pub length_cells : (x : List ℕ) → length (cells x) ≡ 16
 unfolding cells

@@ -1,7 +1,8 @@
 -- How a step fills the facts of the stack: inverses show what differs.
-use Rattle.facts_steps.proofs.Words.{◌≡◌, ◌≢◌, ℕ, ◌+◌, ◌^◌, ◌<◌, true, false, List, length, ap, sym, ◌∙◌, arith, felt_mul-felt_inv, prime, felt_sub, felt_mul}
-use Rattle.facts_steps.proofs.Words.{felt_inv, reads_elsewhere, leaves_of, Op, s, depth, inv, w, is_op, left_value, off, IsStackRow, LeavesCells}
-use Rattle.vm_ops.specs.declared.op.Op.TheVariants as ops
+use Rattle.facts_steps.proofs.Words
+use Words.{◌≡◌, ◌≢◌, ℕ, ◌+◌, ◌^◌, ◌<◌, true, false, List, length, ap, sym, ◌∙◌, arith, felt_mul-felt_inv, prime, felt_sub, felt_mul, felt_inv, reads_elsewhere}
+use Words.{leaves_of, Op, s, depth, inv, w, is_op, left_value, off, IsStackRow, LeavesCells}
+use Words.ops
 use Rattle.facts_steps.proofs.Ordinary.{IsOrdinary, no_return}
 use Rattle.facts_steps.proofs.Tops.{fixed_is_shown}
 use Rattle.facts_steps.proofs.Traps.{Runs}
@@ -24,7 +25,7 @@ pub stack_row_filled : (op : Op) (x : List ℕ) (before : List ℕ) → IsOrdina
 stack_row_filled op x before o deep shallow inverse r = record {
   witness = λ more.
       inverse_shows (felt_sub (depth x) 16) (inv x) (difference_low (depth x) 16) (deeper_some (depth x) (length before) deep shallow more) inverse;
-  returns = λ is. off (sym (no_return op x o) ∙ is);
+  returns = λ is. off (sym (no_return x o) ∙ is);
   top = r.bit;
   second = r.second_bit;
   asserted = r.asserted;

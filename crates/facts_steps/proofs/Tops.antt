@@ -1,10 +1,11 @@
 -- The cells that an operation leaves, one by one and as a list, and those of the operations whose row shows all that they read.
-use Rattle.facts_steps.proofs.Words.{◌≡◌, ℕ, ◌+◌, ◌<◌, ◌≤◌, false, List, ◌++◌, map, take, length, slice_index, refl, ap, ap₂, sym, ◌∙◌, arith}
-use Rattle.facts_steps.proofs.Words.{same_number_lists, length-take-le, get_or-take, computed-shown, reads_elsewhere, leaves_of, sources_of, IsSeenBy}
-use Rattle.facts_steps.proofs.Words.{left_cells, ShowTheSame, Seen, Item, Op, s, depth, Elsewhere, cells, seen_of, is_free, left_value, never}
+use Rattle.facts_steps.proofs.Words
+use Words.{◌≡◌, ℕ, ◌+◌, ◌<◌, ◌≤◌, false, List, ◌++◌, map, take, length, slice_index, refl, ap, ap₂, sym, ◌∙◌, arith, same_number_lists, length-take-le}
+use Words.{get_or-take, computed-shown, reads_elsewhere, leaves_of, sources_of, IsSeenBy, left_cells, ShowTheSame, Seen, Item, Op, s, depth, Elsewhere, cells}
+use Words.{seen_of, is_free, left_value, never}
+use Words.ops
 use Rattle.vm_ops.proofs.MoveLemmas.{leaves_of-below}
 use Rattle.vm_ops.proofs.Sizing.{length-left_cells}
-use Rattle.vm_ops.specs.declared.op.Op.TheVariants as ops
 use Rattle.facts_steps.proofs.Seeing.{seen_by, shows_same, length_cells, cells_index}
 
 -- each cell that the operation leaves is on top in the row behind it
@@ -49,5 +50,4 @@ fixed_is_shown ops.AdvPopW e = never e
 fixed_is_shown ops.MLoad e = never e
 fixed_is_shown ops.MLoadW e = never e
 fixed_is_shown ops.HPerm e = never e
-fixed_is_shown ops.Noop e = refl
 fixed_is_shown op e = refl

@@ -1,5 +1,5 @@
-use Rattle.facts_main.proofs.LimbSpots.{limbs_shown, limbs_zeros}
+use Rattle.facts_main.proofs.LimbFacts.{limb_means}
 use Rattle.facts_main.proofs.laws.limb_laws.Goals as goal
 
 pub returns : goal.returns
-returns c = record { shows = limbs_shown; zeros = limbs_zeros }
+returns c = record { shows = λ op p r. (limb_means op p r).shown; zeros = λ op p r. (limb_means op p r).zeros }
