@@ -1,18 +1,16 @@
 -- What the rows of operations give on the bitwise bus, and what that means.
-use Rattle.std.proofs.Common.{if◌then◌else◌, ◌≡◌, ℕ, zero, suc, ◌+◌, ◌*◌, ◌%◌, ◌^◌, ◌<◌, ◌==◌, ◌⊎◌, inl, inr, Bool, true, false, cond, List, [], ◌∷◌, length, map, slice_index, slice_index_or, nat_eq, bit_and, bit_xor, refl, sym, ap, ap₂, ◌∙◌, arith, lit<}
-use Rattle.std.proofs.lemmas.Bool.{cases_Bool, ne_eqb}
+use Rattle.std.proofs.Common.{if◌then◌else◌, ◌≡◌, ℕ, zero, suc, ◌+◌, ◌%◌, ◌^◌, ◌<◌, ◌==◌, ◌⊎◌, inl, inr, Bool, true, false, List, [], ◌∷◌, map, slice_index, bit_and, bit_xor, refl, sym, ap, ap₂, ◌∙◌, arith, lit<}
+use Rattle.std.proofs.lemmas.Bool.{ne_eqb}
 use Rattle.std.proofs.lemmas.List.Elements.{All-head, All-tail}
-use Rattle.std.specs.Cmp.Lexicographic.{same_text}
-use lib.Pointwise.{pointwise}
 use Rattle.vm_ops.specs.Values.{bit_of}
-use Rattle.buses.specs.Counts.{Counted, counted, once, over_first, total}
+use Rattle.buses.specs.Counts.{Counted, counted, once, total}
 use Rattle.buses.proofs.Counting.{counted-none, counted-append}
 use Rattle.chip_columns.specs.BitwiseColumns as bitwise_columns
 use Rattle.air_kit.specs.declared.requests.BitOp.{BitOp}
 use Rattle.air_kit.specs.ChipTuples.{bitwise_given}
 use Rattle.air_kit.specs.Requests.{bit_given}
-use Rattle.facts_hasher.proofs.BlockLemmas.{eight}
-use Rattle.facts_hasher.proofs.Totals.{total-eight, total-same}
+use Rattle.facts_hasher.proofs.BlockLemmas.{given_all, given_eight, given_from}
+use Rattle.facts_hasher.proofs.Totals.{eight, once_same}
 use Rattle.facts_bitwise.specs.BitRows.{bitwise, bit_row, rows_before, rows_of_bits}
 use Rattle.facts_bitwise.specs.BitTables.{HasWords, HaveWords, GivesOps, IsBitwise}
 
@@ -25,75 +23,41 @@ by_kind : (xor : Bool) (u v : ℕ) → ◌≡◌ {A = Counted} (if xor then once
 by_kind true u v = refl
 by_kind false u v = refl
 
-bit_given-is : (p : BitOp) → bit_given p ≡ once (tuple_of p)
-bit_given-is p = by_kind p.xor p.a p.b
-
 -- ---- by the row's number
 
-gives_by : (q k : ℕ) (row : List ℕ) → k < 8 → bitwise_given (8 * q + k) row
-    ≡ (if k == 7 then once (bitwise_columns.op row ∷ bitwise_columns.a row ∷ bitwise_columns.b row ∷ bitwise_columns.z row ∷ []) ∷ [] else [])
+-- what the last row of its eight gives
+abbrev last_given : List ℕ → List Counted
+last_given row = once (bitwise_columns.op row ∷ bitwise_columns.a row ∷ bitwise_columns.b row ∷ bitwise_columns.z row ∷ []) ∷ []
+
+gives_by : (i k : ℕ) (row : List ℕ) → i % 8 ≡ 0 → k < 8 → bitwise_given (i + k) row ≡ (if k == 7 then last_given row else [])
 unfolding bitwise_given
-gives_by q k row h =
-    ap (λ m. if m == 7 then once (bitwise_columns.op row ∷ bitwise_columns.a row ∷ bitwise_columns.b row ∷ bitwise_columns.z row
-    ∷ []) ∷ [] else []) place
-  where
-    place : (8 * q + k) % 8 ≡ k
-    place = omega (arith, h)
+gives_by i k row start h =
+    let place : (i + k) % 8 ≡ k = omega (arith, start, h) in ap (λ m. if m == 7 then last_given row else []) place
 
-gives_none : (q k : ℕ) (row u : List ℕ) → k < 7 → counted (bitwise_given (8 * q + k) row) u ≡ 0
-gives_none q k row u h =
-    ap (λ xs. counted xs u) (gives_by q k row (omega (arith, h))
-    ∙ ap (λ test. if test then once (bitwise_columns.op row ∷ bitwise_columns.a row ∷ bitwise_columns.b row ∷ bitwise_columns.z row
-    ∷ []) ∷ [] else [])
-    (ne_eqb k 7 (λ e. omega (arith, e, h))))
-    ∙ counted-none u
+gives_none : (i k : ℕ) (row : List ℕ) → i % 8 ≡ 0 → k < 7 → bitwise_given (i + k) row ≡ []
+gives_none i k row start h =
+    gives_by i k row start (omega (arith, h)) ∙ ap (λ last. if last then last_given row else []) (ne_eqb k 7 (λ e. omega (arith, e, h)))
 
-gives_last : (q : ℕ) (p : BitOp) → bitwise_given (8 * q + 7) (bit_row p.xor p.a p.b) ≡ once (tuple_of p) ∷ []
+gives_last : (i : ℕ) (p : BitOp) → i % 8 ≡ 0 → bitwise_given (i + 7) (bit_row p.xor p.a p.b) ≡ once (tuple_of p) ∷ []
 unfolding bit_row
-gives_last q p = gives_by q 7 (bit_row p.xor p.a p.b) (lit< tt)
-
-sum_of_eight : (a b c d e f g h t w : ℕ) → a ≡ 0 → b ≡ 0 → c ≡ 0 → d ≡ 0 → e ≡ 0 → f ≡ 0 → g ≡ 0 → h ≡ w
-    → a + (b + (c + (d + (e + (f + (g + (h + t))))))) ≡ w + t
-sum_of_eight a b c d e f g h t w ea eb ec ed ee ef eg eh = omega (arith, ea, eb, ec, ed, ee, ef, eg, eh)
-
--- how often the rows behind q operations give a tuple
-abbrev given_from : ℕ → List (List ℕ) → List ℕ → ℕ
-given_from q rows u = total (length rows) (λ i. counted (bitwise_given (8 * q + i) (slice_index_or rows i [])) u)
+gives_last i p start = gives_by i 7 (bit_row p.xor p.a p.b) start (lit< tt)
 
 head_counts : (p : BitOp) (ops : List BitOp) (u : List ℕ)
     → counted (map bit_given (p ∷ ops)) u ≡ counted (once (tuple_of p) ∷ []) u + counted (map bit_given ops) u
 head_counts p ops u =
-    ap (λ (c : Counted). counted (c ∷ map bit_given ops) u) (bit_given-is p) ∙ counted-append (once (tuple_of p) ∷ []) (map bit_given ops) u
+    ap (λ (c : Counted). counted (c ∷ map bit_given ops) u) (by_kind p.xor p.a p.b) ∙ counted-append (once (tuple_of p) ∷ []) (map bit_given ops) u
 
-given_ops : (q : ℕ) (ops : List BitOp) (u : List ℕ) → given_from q (rows_of_bits ops) u ≡ counted (map bit_given ops) u
+given_ops : (i : ℕ) (ops : List BitOp) (u : List ℕ) → i % 8 ≡ 0 → given_from bitwise_given i (rows_of_bits ops) u ≡ counted (map bit_given ops) u
 unfolding rows_of_bits rows_before total
-given_ops q [] u = sym (counted-none u)
-given_ops q (p ∷ ops) u =
-    total-eight (length rows) f
-    ∙ sum_of_eight (f 0) (f 1) (f 2) (f 3) (f 4) (f 5) (f 6) (f 7) _ (counted (once (tuple_of p) ∷ []) u)
-    (gives_none q 0 _ u (lit< tt)) (gives_none q 1 _ u (lit< tt)) (gives_none q 2 _ u (lit< tt)) (gives_none q 3 _ u (lit< tt))
-    (gives_none q 4 _ u (lit< tt)) (gives_none q 5 _ u (lit< tt)) (gives_none q 6 _ u (lit< tt)) (ap (λ xs. counted xs u) (gives_last q p))
-    ∙ ap (λ t. counted (once (tuple_of p) ∷ []) u + t)
-    (total-same (length rows) _ _ (λ i h. ap (λ n. counted (bitwise_given n (slice_index_or rows i [])) u) (moved i)) ∙ given_ops (suc q) ops u)
-    ∙ sym (head_counts p ops u)
-  where
-    rows : List (List ℕ)
-    rows = rows_of_bits ops
-
-    f : ℕ → ℕ
-    f i = counted (bitwise_given (8 * q + i) (slice_index_or (rows_before p rows) i [])) u
-
-    moved : (i : ℕ) → 8 * q + eight i ≡ 8 * suc q + i
-    moved i = omega arith
+given_ops i [] u start = sym (counted-none u)
+given_ops i (p ∷ ops) u start =
+    given_eight bitwise_given i _ _ _ _ _ _ _ _ (rows_of_bits ops) u (λ k row low. gives_none i k row start)
+    ∙ ap₂ (λ m n. m + n) (ap (λ xs. counted xs u) (gives_none i 0 _ start (lit< tt)) ∙ counted-none u)
+    (ap₂ (λ m n. m + n) (ap (λ xs. counted xs u) (gives_last i p start)) (given_ops (eight i) ops u (omega (arith, start))))
+    ∙ (let e = head_counts p ops u in omega (arith, e))
 
 pub rows_give : (ops : List BitOp) → GivesOps ops (rows_of_bits ops)
-unfolding over_first
-rows_give ops u =
-    total-same (length (rows_of_bits ops)) _ _ (λ i h. ap (λ n. counted (bitwise_given n (slice_index_or (rows_of_bits ops) i [])) u) (none i))
-    ∙ given_ops 0 ops u
-  where
-    none : (i : ℕ) → i ≡ 8 * 0 + i
-    none i = omega arith
+rows_give ops u = given_all bitwise_given (rows_of_bits ops) u ∙ given_ops 0 ops u refl
 
 -- ---- what a tuple that is given means
 
@@ -102,17 +66,6 @@ pub record IsGiven (u : List ℕ) : Type 0 where
   pub p : BitOp
   pub words : HasWords p
   pub tuple_is : u ≡ tuple_of p
-
-missed : (b : Bool) (n : ℕ) → b ≡ false → n ≡ cond b 1 0 + 0 → n ≡ 0
-missed true n e is = absurd (cc)
-missed false n e is = is
-
-once_same : (t u : List ℕ) → 0 < counted (once t ∷ []) u → u ≡ t
-unfolding counted
-once_same t u h = elim (cases_Bool (pointwise nat_eq t u)) [
-  | inl is ↦ sym (same_text t u (sym is))
-  | inr not ↦ absurd (let e = missed (pointwise nat_eq t u) (counted (once t ∷ []) u) not refl in omega (arith, e, h))
-]
 
 one_of_two : (k l : ℕ) → 0 < k + l → (0 < k) ⊎ (0 < l)
 one_of_two zero l h = inr (omega (arith, h))

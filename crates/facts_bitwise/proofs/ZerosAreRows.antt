@@ -1,15 +1,19 @@
 -- A bitwise table whose entries are 0 has the rows of the operations that it shows, and these are on numbers of 32 bits.
-use Rattle.std.proofs.Common.{◌≡◌, ℕ, suc, ◌+◌, ◌/◌, ◌%◌, ◌^◌, ◌==◌, Bool, true, false, List, [], ◌∷◌, length, slice_get, slice_index_or, Some, refl, ap, ◌∙◌, shr-shr, arith, lit≤}
+use Rattle.std.proofs.Common.{List, [], ap, ap₂, arith, length, lit<, nat_lt, refl, shr-shr, slice_get, subst, suc, true, zero, ℕ, ◌%◌, ◌*◌, ◌+◌, ◌/◌, ◌<◌, ◌==◌, ◌^◌, ◌∙◌, ◌∷◌, ◌≡◌, ◌≤◌}
+use Rattle.std.proofs.Math.Pow.{pow_mono}
+use Rattle.std.proofs.lemmas.Bool.{lt-ltb}
 use Rattle.std.proofs.lemmas.List.Elements.{All-cons, All-nil}
-use Rattle.vm_table.specs.Layout.{IsTable}
+use Rattle.std.proofs.lemmas.Option.{slice_get-get_or}
+use Rattle.vm_table.specs.Layout.{IsTable, row_at}
 use Rattle.chip_columns.specs.BitwiseColumns.{op, a, b}
-use Rattle.air_kit.specs.BitwiseValues.{bitwise_values}
-use Rattle.air_kit.specs.Places.{at_number}
-use Rattle.facts_hasher.proofs.BlockLemmas.{eight, first_of}
+use Rattle.air_kit.specs.BitwiseValues.{bitwise_values, bitwise_values_by}
+use Rattle.facts_hasher.proofs.BlockLemmas.{AllZero, ZeroFrom, eight_same, table_rest, zero_from, zero_rest}
+use Rattle.facts_hasher.proofs.Totals.{eight}
 use Rattle.facts_bitwise.specs.BitRows.{bit_row, row_without, rows_before, rows_of_bits, bit_op_of, ops_in}
 use Rattle.facts_bitwise.specs.BitTables.{HasWords, AreOpRows, BitwiseIsZero}
+use Rattle.facts_bitwise.proofs.EightRows.{values_at}
+use Rattle.facts_bitwise.proofs.RowLemmas.{HasRowBits}
 use Rattle.facts_bitwise.proofs.ZeroLemmas.{IsNextRow, ShowsBits, first_shows, goes_on, has_bits}
-use Rattle.facts_bitwise.proofs.EightRows.{EightZero, ZeroFrom, eight_from, zero_from}
 
 -- ---- a row before others of its eight, whose last one is known
 
@@ -18,116 +22,100 @@ record IsBefore (n : ℕ) (last row : List ℕ) : Type 0 where
   first_is : a row ≡ a last / 2 ^ n
   second_is : b row ≡ b last / 2 ^ n
 
-one_before : (n k : ℕ) (last cur next : List ℕ) → IsBefore n last next → IsNextRow k cur next → IsBefore (n + 4) last cur
-one_before n k last cur next h g = record {
-  kind_same = g.kind_same ∙ h.kind_same;
-  first_is = g.first_is ∙ ap (λ m. m / 2 ^ 4) h.first_is ∙ shr-shr (a last) n 4;
-  second_is = g.second_is ∙ ap (λ m. m / 2 ^ 4) h.second_is ∙ shr-shr (b last) n 4;
-}
+itself : (row : List ℕ) → IsBefore 0 row row
+itself row = record { kind_same = refl; first_is = omega arith; second_is = omega arith }
 
-row_same : (x y : Bool) (s t u v : ℕ) → x ≡ y → s ≡ t → u ≡ v → bit_row x s u ≡ bit_row y t v
-row_same x y s t u v p q r = cc
+one_behind : (n k : ℕ) (row cur next : List ℕ) → IsBefore n cur row → IsNextRow k cur next → IsBefore (4 + n) next row
+one_behind n k row cur next h g = record {
+  kind_same = h.kind_same ∙ g.kind_same;
+  first_is = h.first_is ∙ ap (λ m. m / 2 ^ n) g.first_is ∙ shr-shr (a next) 4 n;
+  second_is = h.second_is ∙ ap (λ m. m / 2 ^ n) g.second_is ∙ shr-shr (b next) 4 n;
+}
 
 before_is : (n k : ℕ) (last row : List ℕ) → ShowsBits k row → IsBefore n last row → row ≡ row_without n (bit_op_of last)
 unfolding row_without bit_op_of
 before_is n k last row s h =
-    s.row_is ∙ row_same (op row == 1) (op last == 1) (a row) _ (b row) _ (ap (λ o. o == 1) h.kind_same) h.first_is h.second_is
+    s.row_is ∙ ap (λ o. bit_row (o == 1) (a row) (b row)) h.kind_same ∙ ap₂ (bit_row (op last == 1)) h.first_is h.second_is
 
 -- ---- eight rows
 
-eight_same : (a b c d e f g h s t u v w z y q : List ℕ) (rows : List (List ℕ))
-    → a ≡ s → b ≡ t → c ≡ u → d ≡ v → e ≡ w → f ≡ z → g ≡ y → h ≡ q
-    → a ∷ b ∷ c ∷ d ∷ e ∷ f ∷ g ∷ h ∷ rows ≡ s ∷ t ∷ u ∷ v ∷ w ∷ z ∷ y ∷ q ∷ rows
-eight_same a b c d e f g h s t u v w z y q rows e0 e1 e2 e3 e4 e5 e6 e7 = cc
+-- how many bits the numbers of the row at a place have
+abbrev width : ℕ → ℕ
+width zero = 4
+width (suc k) = width k + 4
 
-record EightShow (r0 r1 r2 r3 r4 r5 r6 r7 : List ℕ) (rows : List (List ℕ)) : Type 0 where
-  rows_are : r0 ∷ r1 ∷ r2 ∷ r3 ∷ r4 ∷ r5 ∷ r6 ∷ r7 ∷ rows ≡ rows_before (bit_op_of r7) rows
-  words : HasWords (bit_op_of r7)
+width-is : (k : ℕ) → width k ≡ 4 * k + 4
+width-is zero = refl
+width-is (suc k) = let e = width-is k in omega (arith, e)
 
-eight_show : (r0 r1 r2 r3 r4 r5 r6 r7 : List ℕ) (rows : List (List ℕ)) → IsTable 12 (r0 ∷ r1 ∷ r2 ∷ r3 ∷ r4 ∷ r5 ∷ r6 ∷ r7 ∷ rows)
-    → EightZero r0 r1 r2 r3 r4 r5 r6 r7 (first_of rows) → EightShow r0 r1 r2 r3 r4 r5 r6 r7 rows
-unfolding rows_before bit_op_of
-eight_show r0 r1 r2 r3 r4 r5 r6 r7 rows t z = record {
-  rows_are = eight_same r0 r1 r2 r3 r4 r5 r6 r7 _ _ _ _ _ _ _ _ rows (before_is 28 4 r7 r0 s0 b0) (before_is 24 8 r7 r1 g1.shows b1)
-      (before_is 20 12 r7 r2 g2.shows b2) (before_is 16 16 r7 r3 g3.shows b3) (before_is 12 20 r7 r4 g4.shows b4)
-      (before_is 8 24 r7 r5 g5.shows b5) (before_is 4 28 r7 r6 g6.shows b6) g7.shows.row_is;
-  words = (g7.shows.first, g7.shows.second);
-}
-  where
-    s0 : ShowsBits 4 r0
-    s0 = first_shows true r0 (Some r1) (t.wide 0 (omega arith)) (t.below 0) z.z0
+room : (k : ℕ) → k ≤ 28 → 2 ^ k ≤ 2 ^ 28
+room k h = pow_mono h
 
-    g1 : IsNextRow 4 r0 r1
-    g1 = goes_on 4 true r0 r1 (lit≤ tt) (t.wide 1 (omega arith)) (t.below 1) (has_bits false true r1 (Some r2) (t.below 1) z.z1) s0 z.z0
+-- the place so many rows behind, and how many bits more the numbers have there
+abbrev behind : ℕ → ℕ → ℕ
+behind k zero = k
+behind k (suc d) = suc (behind k d)
 
-    g2 : IsNextRow 8 r1 r2
-    g2 = goes_on 8 false r1 r2 (lit≤ tt) (t.wide 2 (omega arith)) (t.below 2) (has_bits false true r2 (Some r3) (t.below 2) z.z2) g1.shows z.z1
+abbrev fewer : ℕ → ℕ
+fewer zero = 0
+fewer (suc d) = 4 + fewer d
 
-    g3 : IsNextRow 12 r2 r3
-    g3 = goes_on 12 false r2 r3 (lit≤ tt) (t.wide 3 (omega arith)) (t.below 3) (has_bits false true r3 (Some r4) (t.below 3) z.z3) g2.shows z.z2
+record EightShow (last : List ℕ) (eight_rows : List (List ℕ) → List (List ℕ)) : Type 0 where
+  rows_are : (rows : List (List ℕ)) → eight_rows rows ≡ rows_before (bit_op_of last) rows
+  words : HasWords (bit_op_of last)
 
-    g4 : IsNextRow 16 r3 r4
-    g4 = goes_on 16 false r3 r4 (lit≤ tt) (t.wide 4 (omega arith)) (t.below 4) (has_bits false true r4 (Some r5) (t.below 4) z.z4) g3.shows z.z3
+module _ (i : ℕ) (start : i % 8 ≡ 0) (all : List (List ℕ)) (enough : 8 ≤ length all) (t : IsTable 12 all) (z : ZeroFrom bitwise_values i all) where
+  zeros : (k : ℕ) → k < 8 → AllZero (bitwise_values_by (k == 0) (nat_lt k 7) (row_at all k) (slice_get all (suc k)))
+  zeros k h = subst AllZero (values_at i k (row_at all k) (slice_get all (suc k)) start h) (z.at k (omega arith))
 
-    g5 : IsNextRow 20 r4 r5
-    g5 = goes_on 20 false r4 r5 (lit≤ tt) (t.wide 5 (omega arith)) (t.below 5) (has_bits false true r5 (Some r6) (t.below 5) z.z5) g4.shows z.z4
+  bits_at : (k : ℕ) → k < 8 → HasRowBits (row_at all k)
+  bits_at k h = has_bits (k == 0) (nat_lt k 7) (row_at all k) (slice_get all (suc k)) (t.below k) (zeros k h)
 
-    g6 : IsNextRow 24 r5 r6
-    g6 = goes_on 24 false r5 r6 (lit≤ tt) (t.wide 6 (omega arith)) (t.below 6) (has_bits false true r6 (Some r7) (t.below 6) z.z6) g5.shows z.z5
+  next_row : (k : ℕ) → k < 7 → ShowsBits (width k) (row_at all k) → IsNextRow (width k) (row_at all k) (row_at all (suc k))
+  next_row k h s =
+      goes_on (width k) (k == 0) (row_at all k) (row_at all (suc k)) (room (width k) (let e = width-is k in omega (arith, e, h)))
+      (t.wide (suc k) (omega arith)) (t.below (suc k)) (bits_at (suc k) (omega (arith, h))) s
+      (subst AllZero
+      (ap₂ (λ inside next. bitwise_values_by (k == 0) inside (row_at all k) next) (lt-ltb k 7 h) (slice_get-get_or all (suc k) [] (omega arith)))
+      (zeros k (omega (arith, h))))
 
-    g7 : IsNextRow 28 r6 r7
-    g7 = goes_on 28 false r6 r7 (lit≤ tt) (t.wide 7 (omega arith)) (t.below 7)
-        (has_bits false false r7 (first_of rows) (t.below 7) z.z7) g6.shows z.z6
+  shows : (k : ℕ) → k < 8 → ShowsBits (width k) (row_at all k)
+  shows zero h = first_shows true (row_at all 0) (slice_get all 1) (t.wide 0 (omega arith)) (t.below 0) (zeros 0 (lit< tt))
+  shows (suc k) h = (next_row k (omega (arith, h)) (shows k (omega (arith, h)))).shows
 
-    b6 : IsBefore 4 r7 r6
-    b6 = record { kind_same = g7.kind_same; first_is = g7.first_is; second_is = g7.second_is }
+  before : (k d : ℕ) → behind k d < 8 → IsBefore (fewer d) (row_at all (behind k d)) (row_at all k)
+  before k zero h = itself (row_at all k)
+  before k (suc d) h =
+      one_behind (fewer d) (width (behind k d)) (row_at all k) (row_at all (behind k d)) (row_at all (suc (behind k d)))
+      (before k d (omega (arith, h))) (next_row (behind k d) (omega (arith, h)) (shows (behind k d) (omega (arith, h))))
 
-    b5 : IsBefore 8 r7 r5
-    b5 = one_before 4 24 r7 r5 r6 b6 g6
+  is_row : (k d : ℕ) → k < 8 → behind k d < 8 → row_at all k ≡ row_without (fewer d) (bit_op_of (row_at all (behind k d)))
+  is_row k d h last = before_is (fewer d) (width k) (row_at all (behind k d)) (row_at all k) (shows k h) (before k d last)
 
-    b4 : IsBefore 12 r7 r4
-    b4 = one_before 8 20 r7 r4 r5 b5 g5
-
-    b3 : IsBefore 16 r7 r3
-    b3 = one_before 12 16 r7 r3 r4 b4 g4
-
-    b2 : IsBefore 20 r7 r2
-    b2 = one_before 16 12 r7 r2 r3 b3 g3
-
-    b1 : IsBefore 24 r7 r1
-    b1 = one_before 20 8 r7 r1 r2 b2 g2
-
-    b0 : IsBefore 28 r7 r0
-    b0 = one_before 24 4 r7 r0 r1 b1 g1
+  eight_show : EightShow (row_at all 7) (λ rows. row_at all 0 ∷ row_at all 1 ∷ row_at all 2 ∷ row_at all 3 ∷ row_at all 4 ∷ row_at all 5
+      ∷ row_at all 6 ∷ row_at all 7 ∷ rows)
+  unfolding rows_before bit_op_of
+  eight_show = record {
+    rows_are = λ rows.
+        eight_same (is_row 0 7 (lit< tt) (lit< tt)) (is_row 1 6 (lit< tt) (lit< tt)) (is_row 2 5 (lit< tt) (lit< tt))
+        (is_row 3 4 (lit< tt) (lit< tt)) (is_row 4 3 (lit< tt) (lit< tt)) (is_row 5 2 (lit< tt) (lit< tt)) (is_row 6 1 (lit< tt) (lit< tt))
+        (shows 7 (lit< tt)).row_is refl;
+    words = ((shows 7 (lit< tt)).first, (shows 7 (lit< tt)).second);
+  }
 
 -- ---- the whole table
 
-table_rest : (r0 r1 r2 r3 r4 r5 r6 r7 : List ℕ) (rows : List (List ℕ)) → IsTable 12 (r0 ∷ r1 ∷ r2 ∷ r3 ∷ r4 ∷ r5 ∷ r6 ∷ r7 ∷ rows)
-    → IsTable 12 rows
-table_rest r0 r1 r2 r3 r4 r5 r6 r7 rows t = record {
-  wide = λ i h. t.wide (eight i) (omega arith);
-  below = λ i k. t.below (eight i) k;
-}
-
-from_numbers : (i : ℕ) (rows : List (List ℕ)) → i % 8 ≡ 0 → length rows % 8 ≡ 0 → IsTable 12 rows → ZeroFrom i rows → AreOpRows rows
+from_numbers : (i : ℕ) (rows : List (List ℕ)) → i % 8 ≡ 0 → length rows % 8 ≡ 0 → IsTable 12 rows → ZeroFrom bitwise_values i rows → AreOpRows rows
 unfolding rows_of_bits ops_in
 from_numbers i [] start whole t z = record { words = All-nil HasWords; rows_are = refl }
 from_numbers i (r0 ∷ r1 ∷ r2 ∷ r3 ∷ r4 ∷ r5 ∷ r6 ∷ r7 ∷ rows) start whole t z =
-    let parts = eight_from i r0 r1 r2 r3 r4 r5 r6 r7 rows start z in
-    let show = eight_show r0 r1 r2 r3 r4 r5 r6 r7 rows t parts.0 in
-    let are = from_numbers (eight i) rows (omega (arith, start)) (omega (arith, whole)) (table_rest r0 r1 r2 r3 r4 r5 r6 r7 rows t) parts.1 in
+    let show = eight_show i start (r0 ∷ r1 ∷ r2 ∷ r3 ∷ r4 ∷ r5 ∷ r6 ∷ r7 ∷ rows) (omega arith) t z in
+    let are = from_numbers (eight i) rows (omega (arith, start)) (omega (arith, whole)) (table_rest t) (zero_rest z) in
     record {
       words = All-cons HasWords (bit_op_of r7) (ops_in rows) show.words are.words;
-      rows_are = show.rows_are ∙ ap (rows_before (bit_op_of r7)) are.rows_are;
+      rows_are = show.rows_are rows ∙ ap (rows_before (bit_op_of r7)) are.rows_are;
     }
 from_numbers i _ start whole t z = absurd (omega arith)
 
-no_others : (k : ℕ) → 0 + k ≡ k
-no_others k = omega arith
-
 pub zeros_are_rows : (rows : List (List ℕ)) → BitwiseIsZero rows → AreOpRows rows
-zeros_are_rows rows z =
-    from_numbers 0 rows refl z.whole z.table (zero_from 0 rows
-    (λ k n h. ap (λ row. at_number (bitwise_values
-    (record { row = row; cur = slice_index_or rows k []; next = slice_get rows (suc k) })) n) (no_others k)
-    ∙ z.zero k n h))
+zeros_are_rows rows z = from_numbers 0 rows refl z.whole z.table (zero_from bitwise_values rows z.zero)

@@ -1,137 +1,157 @@
--- Tables whose values are 0, eight rows by eight.
-use Rattle.std.proofs.Common.{◌≡◌, ℕ, zero, suc, ◌+◌, ◌*◌, ◌%◌, ◌<◌, ◌==◌, nat_lt, Bool, false, List, [], ◌∷◌, length, slice_get, slice_index, slice_index_or, Option, Some, None, refl, sym, ap, subst, ◌∙◌, arith, lit<}
-use Rattle.std.proofs.lemmas.Bool.{ne_eqb}
-use Rattle.vm_field.specs.Permutation.{round_constants}
-use Rattle.air_kit.specs.Places.{Claim, Spot, at_number}
-use Rattle.air_kit.specs.HasherValues.{hasher_values, hasher_values_by}
-use Rattle.facts_hasher.proofs.ZeroLemmas.{AllZero}
+-- Rows from a number on, eight by eight: tables of them whose values are 0, and what they give.
+use Rattle.std.proofs.Common.{List, Option, [], ap, arith, inl, inr, length, lit<, refl, slice_get, slice_index, subst, suc, zero, ℕ, ◌+◌, ◌++◌, ◌-◌, ◌<◌, ◌∙◌, ◌∷◌, ◌≡◌, ◌≤◌, ◌⊎◌}
+use Rattle.std.proofs.lemmas.Bool.{cases_lt}
+use Rattle.vm_table.specs.Layout.{IsTable, row_at}
+use Rattle.buses.specs.Counts.{Counted, counted, over_first, over_rows, total}
+use Rattle.air_kit.specs.Places.{Spot, at_number, family}
+use Rattle.air_kit.specs.Traces.{spot_of}
+use Rattle.facts_hasher.proofs.RowLemmas.{CellsBelow}
+use Rattle.facts_hasher.proofs.Totals.{eight, total-eight, total-same}
 
--- the values of the row at place k of its eight
-abbrev pub values_at : List ℕ → Bool → ℕ → List ℕ → Option (List ℕ) → List ℕ
-values_at constants first k row next =
-    hasher_values_by first (k == 0) (nat_lt k 7) (k == 7) (round_constants constants k) row next
+-- ---- values that are 0
 
--- those of eight rows are 0
-pub record EightZero (constants : List ℕ) (first : Bool) (r0 r1 r2 r3 r4 r5 r6 r7 : List ℕ) (next : Option (List ℕ)) : Type 0 where
-  pub z0 : AllZero (values_at constants first 0 r0 (Some r1))
-  pub z1 : AllZero (values_at constants false 1 r1 (Some r2))
-  pub z2 : AllZero (values_at constants false 2 r2 (Some r3))
-  pub z3 : AllZero (values_at constants false 3 r3 (Some r4))
-  pub z4 : AllZero (values_at constants false 4 r4 (Some r5))
-  pub z5 : AllZero (values_at constants false 5 r5 (Some r6))
-  pub z6 : AllZero (values_at constants false 6 r6 (Some r7))
-  pub z7 : AllZero (values_at constants false 7 r7 next)
+abbrev pub AllZero : List ℕ → Type 0
+AllZero values = (n : ℕ) → slice_index values n ≡ 0
 
-abbrev pub first_of : List (List ℕ) → Option (List ℕ)
-first_of [] = None
-first_of (r ∷ rows) = Some r
+-- what holds of each of some values
+pub data Each (P : ℕ → Type 0) : List ℕ → Type 0 where
+  no_values : Each P []
+  value_then : {v : ℕ} {values : List ℕ} → P v → Each P values → Each P (v ∷ values)
 
--- those of whole permutations are 0
-unfoldable pub ZeroFrom : List ℕ → Bool → List (List ℕ) → Type 0
-ZeroFrom constants first [] = Unit {0}
-ZeroFrom constants first (r0 ∷ r1 ∷ r2 ∷ r3 ∷ r4 ∷ r5 ∷ r6 ∷ r7 ∷ rows) =
-    EightZero constants first r0 r1 r2 r3 r4 r5 r6 r7 (first_of rows) × ZeroFrom constants false rows
-ZeroFrom constants first rows = ⊥
+-- it holds at each place, where it holds of 0, which stands past their end
+pub each_at : (P : ℕ → Type 0) (values : List ℕ) → P 0 → Each P values → (n : ℕ) → P (slice_index values n)
+each_at P values past no_values n = past
+each_at P values past (value_then is each) zero = is
+each_at P values past (value_then {values = later} is each) (suc n) = each_at P later past each n
 
--- ---- by the rows' numbers
+pub all_append : (xs ys : List ℕ) → AllZero xs → AllZero ys → AllZero (xs ++ ys)
+all_append [] ys zx zy n = zy n
+all_append (x ∷ xs) ys zx zy zero = zx 0
+all_append (x ∷ xs) ys zx zy (suc n) = all_append xs ys (λ k. zx (suc k)) zy n
 
--- the spot of row k behind q permutations
-abbrev pub spot_behind : ℕ → List (List ℕ) → ℕ → Spot
-spot_behind q rows k = record { row = 8 * q + k; cur = slice_index_or rows k []; next = slice_get rows (suc k) }
+pub all_family : (n : ℕ) (value : ℕ → ℕ) → ((j : ℕ) → j < n → value j ≡ 0) → AllZero (family n value)
+unfolding family
+all_family zero value zero_is k = refl
+all_family (suc n) value zero_is zero = zero_is 0 (omega arith)
+all_family (suc n) value zero_is (suc k) = all_family n (λ j. value (suc j)) (λ j h. zero_is (suc j) (omega (arith, h))) k
 
-pub values_behind : (c : Claim) (q k : ℕ) (cur : List ℕ) (next : Option (List ℕ)) → k < 8
-    → hasher_values c (record { row = 8 * q + k; cur = cur; next = next }) ≡ values_at c.constants (8 * q + k == 0) k cur next
-unfolding hasher_values
-values_behind c q k cur next h = ap (λ m. values_at c.constants (8 * q + k == 0) m cur next) place
+-- those of rows are 0, of which the first has this number
+pub record ZeroFrom (values : Spot → List ℕ) (i : ℕ) (rows : List (List ℕ)) : Type 0 where
+  pub at : (k : ℕ) → k < length rows → AllZero (values (record { row = i + k; cur = row_at rows k; next = slice_get rows (suc k) }))
+
+pub none_from : (values : Spot → List ℕ) (i : ℕ) → ZeroFrom values i []
+none_from values i = record { at = λ k h. absurd (omega arith) }
+
+-- a row by another name of its number
+renumbered : (values : Spot → List ℕ) (m n : ℕ) (cur : List ℕ) (next : Option (List ℕ)) → m ≡ n
+    → AllZero (values (record { row = m; cur = cur; next = next })) → AllZero (values (record { row = n; cur = cur; next = next }))
+renumbered values m n cur next e z = subst (λ r. AllZero (values (record { row = r; cur = cur; next = next }))) e z
+
+-- those of a whole table
+pub zero_from : (values : Spot → List ℕ) (rows : List (List ℕ)) → ((i number : ℕ) → i < length rows → at_number (values (spot_of rows i)) number ≡ 0)
+    → ZeroFrom values 0 rows
+unfolding at_number
+zero_from values rows z = record {
+  at = λ k h. renumbered values k (0 + k) (row_at rows k) (slice_get rows (suc k)) (omega arith) (λ n. z k (suc n) h);
+}
+
+pub zero_all : {values : Spot → List ℕ} {rows : List (List ℕ)} → ZeroFrom values 0 rows → (i number : ℕ) → i < length rows
+    → at_number (values (spot_of rows i)) number ≡ 0
+unfolding at_number
+zero_all z i zero h = refl
+zero_all {values} {rows} z i (suc n) h = renumbered values (0 + i) i (row_at rows i) (slice_get rows (suc i)) (omega arith) (z.at i h) n
+
+-- those behind eight rows
+pub zero_rest : {values : Spot → List ℕ} {i : ℕ} {r0 r1 r2 r3 r4 r5 r6 r7 : List ℕ} {rows : List (List ℕ)}
+    → ZeroFrom values i (r0 ∷ r1 ∷ r2 ∷ r3 ∷ r4 ∷ r5 ∷ r6 ∷ r7 ∷ rows) → ZeroFrom values (eight i) rows
+zero_rest {values} {i} {rows = rows} z = record {
+  at = λ k h. renumbered values (i + eight k) (eight i + k) (row_at rows k) (slice_get rows (suc k)) (omega arith) (z.at (eight k) (omega arith));
+}
+
+-- what holds at each of eight places
+pub eight_cases : (P : ℕ → Type 0) → P 0 → P 1 → P 2 → P 3 → P 4 → P 5 → P 6 → P 7 → (k : ℕ) → k < 8 → P k
+eight_cases P p0 p1 p2 p3 p4 p5 p6 p7 zero h = p0
+eight_cases P p0 p1 p2 p3 p4 p5 p6 p7 (suc zero) h = p1
+eight_cases P p0 p1 p2 p3 p4 p5 p6 p7 (suc (suc zero)) h = p2
+eight_cases P p0 p1 p2 p3 p4 p5 p6 p7 (suc (suc (suc zero))) h = p3
+eight_cases P p0 p1 p2 p3 p4 p5 p6 p7 (suc (suc (suc (suc zero)))) h = p4
+eight_cases P p0 p1 p2 p3 p4 p5 p6 p7 (suc (suc (suc (suc (suc zero))))) h = p5
+eight_cases P p0 p1 p2 p3 p4 p5 p6 p7 (suc (suc (suc (suc (suc (suc zero)))))) h = p6
+eight_cases P p0 p1 p2 p3 p4 p5 p6 p7 (suc (suc (suc (suc (suc (suc (suc zero))))))) h = p7
+eight_cases P p0 p1 p2 p3 p4 p5 p6 p7 (suc (suc (suc (suc (suc (suc (suc (suc k)))))))) h = absurd (omega arith)
+
+-- eight rows and those behind them
+pub zero_eight : {values : Spot → List ℕ} {i : ℕ} {r0 r1 r2 r3 r4 r5 r6 r7 : List ℕ} {rows : List (List ℕ)}
+    → ((k : ℕ) → k < 8 → AllZero (values (record {
+      row = i + k;
+      cur = row_at (r0 ∷ r1 ∷ r2 ∷ r3 ∷ r4 ∷ r5 ∷ r6 ∷ r7 ∷ rows) k;
+      next = slice_get (r0 ∷ r1 ∷ r2 ∷ r3 ∷ r4 ∷ r5 ∷ r6 ∷ r7 ∷ rows) (suc k);
+    })))
+    → ZeroFrom values (eight i) rows → ZeroFrom values i (r0 ∷ r1 ∷ r2 ∷ r3 ∷ r4 ∷ r5 ∷ r6 ∷ r7 ∷ rows)
+zero_eight {values} {i} {r0} {r1} {r2} {r3} {r4} {r5} {r6} {r7} {rows} first rest = record { at = λ k h. at k h (cases_lt k 8) }
   where
-    place : (8 * q + k) % 8 ≡ k
-    place = omega (arith, h)
+    all : List (List ℕ)
+    all = r0 ∷ r1 ∷ r2 ∷ r3 ∷ r4 ∷ r5 ∷ r6 ∷ r7 ∷ rows
 
-not_first : (q : ℕ) → (suc q == 0) ≡ false
-not_first q = ne_eqb (suc q) 0 (λ e. omega (arith, e))
+    at : (k : ℕ) → k < length all → (k < 8) ⊎ (8 ≤ k) → AllZero (values (record { row = i + k; cur = row_at all k; next = slice_get all (suc k) }))
+    at k h (inl few) = first k few
+    at k h (inr more) =
+        let e : eight (k - 8) ≡ k = omega arith in
+        subst (λ k. AllZero (values (record { row = i + k; cur = row_at all k; next = slice_get all (suc k) }))) e
+        (renumbered values (eight i + (k - 8)) (i + eight (k - 8)) (row_at rows (k - 8)) (slice_get rows (suc (k - 8))) (omega arith)
+        (rest.at (k - 8) (omega arith)))
 
-first_row : (q : ℕ) → (8 * q + 0 == 0) ≡ (q == 0)
-first_row zero = refl
-first_row (suc q) = ne_eqb (8 * suc q + 0) 0 (λ e. omega (arith, e)) ∙ sym (not_first q)
+-- ---- tables
 
-later_row : (q k : ℕ) → 0 < k → (8 * q + k == 0) ≡ false
-later_row q k h = ne_eqb (8 * q + k) 0 (λ e. omega (arith, e, h))
+pub table_rest : {n : ℕ} {r0 r1 r2 r3 r4 r5 r6 r7 : List ℕ} {rows : List (List ℕ)} → IsTable n (r0 ∷ r1 ∷ r2 ∷ r3 ∷ r4 ∷ r5 ∷ r6 ∷ r7 ∷ rows)
+    → IsTable n rows
+table_rest t = record { wide = λ i h. t.wide (eight i) (omega arith); below = λ i k. t.below (eight i) k }
 
-values_first : (c : Claim) (q : ℕ) (cur : List ℕ) (next : Option (List ℕ))
-    → hasher_values c (record { row = 8 * q + 0; cur = cur; next = next }) ≡ values_at c.constants (q == 0) 0 cur next
-values_first c q cur next = values_behind c q 0 cur next (lit< tt) ∙ ap (λ b. values_at c.constants b 0 cur next) (first_row q)
+pub table_none : (n : ℕ) → IsTable n []
+table_none n = record { wide = λ i h. absurd (omega arith); below = λ i k. lit< tt }
 
-values_later : (c : Claim) (q k : ℕ) (cur : List ℕ) (next : Option (List ℕ)) → 0 < k → k < 8
-    → hasher_values c (record { row = 8 * q + k; cur = cur; next = next }) ≡ values_at c.constants false k cur next
-values_later c q k cur next h below =
-    values_behind c q k cur next below ∙ ap (λ b. values_at c.constants b k cur next) (later_row q k h)
+pub table_cons : {n : ℕ} (r : List ℕ) {rows : List (List ℕ)} → length r ≡ n → CellsBelow r → IsTable n rows → IsTable n (r ∷ rows)
+table_cons {n} r {rows} wide_row below_row t = record { wide = wide; below = below }
+  where
+    wide : (i : ℕ) → i < length (r ∷ rows) → length (row_at (r ∷ rows) i) ≡ n
+    wide zero h = wide_row
+    wide (suc i) h = t.wide i (omega arith)
 
--- values that are 0 at each number
-abbrev pub ZeroBehind : Claim → ℕ → List (List ℕ) → Type 0
-ZeroBehind c q rows = (k number : ℕ) → k < length rows → at_number (hasher_values c (spot_behind q rows k)) number ≡ 0
+    below : (i : ℕ) → CellsBelow (row_at (r ∷ rows) i)
+    below zero = below_row
+    below (suc i) = t.below i
 
-all_zero : (values others : List ℕ) → values ≡ others → ((number : ℕ) → at_number values number ≡ 0) → AllZero others
-unfolding at_number
-all_zero values others e zero_is n = ap (λ xs. slice_index xs n) (sym e) ∙ zero_is (suc n)
+-- rows are the same where each of eight is, and those behind them
+pub eight_same : {a b c d e f g h s t u v w z y q : List ℕ} {rows others : List (List ℕ)}
+    → a ≡ s → b ≡ t → c ≡ u → d ≡ v → e ≡ w → f ≡ z → g ≡ y → h ≡ q → rows ≡ others
+    → a ∷ b ∷ c ∷ d ∷ e ∷ f ∷ g ∷ h ∷ rows ≡ s ∷ t ∷ u ∷ v ∷ w ∷ z ∷ y ∷ q ∷ others
+eight_same e0 e1 e2 e3 e4 e5 e6 e7 later = cc
 
--- the place behind eight more
-abbrev pub eight : ℕ → ℕ
-eight k = suc (suc (suc (suc (suc (suc (suc (suc k)))))))
+-- ---- what rows give by their numbers
 
-row_moved : (q k : ℕ) → 8 * q + eight k ≡ 8 * suc q + k
-row_moved q k = omega arith
+module _ (given : ℕ → List ℕ → List Counted) where
+  -- how often rows give a tuple, of which the first has this number
+  abbrev pub given_from : ℕ → List (List ℕ) → List ℕ → ℕ
+  given_from i rows u = total (length rows) (λ k. counted (given (i + k) (row_at rows k)) u)
 
-first_is : (rows : List (List ℕ)) → slice_get rows 0 ≡ first_of rows
-first_is [] = refl
-first_is (r ∷ rows) = refl
+  pub given_all : (rows : List (List ℕ)) (u : List ℕ) → over_rows (λ i row next. given i row) rows u ≡ given_from 0 rows u
+  unfolding over_first
+  given_all rows u =
+      total-same (length rows) _ _ (λ k h. ap (λ n. counted (given n (row_at rows k)) u) (let e : k ≡ 0 + k = omega arith in e))
 
-pub zero_from : (c : Claim) (q : ℕ) (rows : List (List ℕ)) → length rows % 8 ≡ 0 → ZeroBehind c q rows → ZeroFrom c.constants (q == 0) rows
-unfolding ZeroFrom
-zero_from c q [] whole zero_is = tt
-zero_from c q (r0 ∷ r1 ∷ r2 ∷ r3 ∷ r4 ∷ r5 ∷ r6 ∷ r7 ∷ rows) whole zero_is = (
-  record {
-    z0 = all_zero _ _ (values_first c q r0 (Some r1)) (λ n. zero_is 0 n (omega arith));
-    z1 = all_zero _ _ (values_later c q 1 r1 (Some r2) (lit< tt) (lit< tt)) (λ n. zero_is 1 n (omega arith));
-    z2 = all_zero _ _ (values_later c q 2 r2 (Some r3) (lit< tt) (lit< tt)) (λ n. zero_is 2 n (omega arith));
-    z3 = all_zero _ _ (values_later c q 3 r3 (Some r4) (lit< tt) (lit< tt)) (λ n. zero_is 3 n (omega arith));
-    z4 = all_zero _ _ (values_later c q 4 r4 (Some r5) (lit< tt) (lit< tt)) (λ n. zero_is 4 n (omega arith));
-    z5 = all_zero _ _ (values_later c q 5 r5 (Some r6) (lit< tt) (lit< tt)) (λ n. zero_is 5 n (omega arith));
-    z6 = all_zero _ _ (values_later c q 6 r6 (Some r7) (lit< tt) (lit< tt)) (λ n. zero_is 6 n (omega arith));
-    z7 = all_zero _ _ (ap (λ next. hasher_values c (record { row = 8 * q + 7; cur = r7; next = next })) (first_is rows)
-        ∙ values_later c q 7 r7 (first_of rows) (lit< tt) (lit< tt)) (λ n. zero_is 7 n (omega arith));
-  },
-  subst (λ b. ZeroFrom c.constants b rows) (not_first q) (zero_from c (suc q) rows (omega arith) (λ k n h.
-      ap (λ row. at_number (hasher_values c (record { row = row; cur = slice_index_or rows k []; next = slice_get rows (suc k) })) n)
-      (sym (row_moved q k)) ∙ zero_is (eight k) n (omega arith))),
-)
-zero_from c q _ whole zero_is = absurd (omega arith)
+  -- of eight rows the first and the last alone give something
+  pub given_eight : (i : ℕ) (r0 r1 r2 r3 r4 r5 r6 r7 : List ℕ) (rows : List (List ℕ)) (u : List ℕ)
+      → ((k : ℕ) (row : List ℕ) → 0 < k → k < 7 → given (i + k) row ≡ [])
+      → given_from i (r0 ∷ r1 ∷ r2 ∷ r3 ∷ r4 ∷ r5 ∷ r6 ∷ r7 ∷ rows) u
+      ≡ counted (given (i + 0) r0) u + (counted (given (i + 7) r7) u + given_from (eight i) rows u)
+  unfolding counted
+  given_eight i r0 r1 r2 r3 r4 r5 r6 r7 rows u none =
+      total-eight (length rows) f (λ k low high. ap (λ xs. counted xs u) (none k (row_at all k) low high))
+      ∙ ap (λ t. f 0 + (f 7 + t)) (total-same (length rows) _ _ (λ k h.
+      ap (λ n. counted (given n (row_at rows k)) u) (let e : i + eight k ≡ eight i + k = omega arith in e)))
+    where
+      all : List (List ℕ)
+      all = r0 ∷ r1 ∷ r2 ∷ r3 ∷ r4 ∷ r5 ∷ r6 ∷ r7 ∷ rows
 
-zero_number : (values others : List ℕ) (number : ℕ) → values ≡ others → AllZero others → at_number values number ≡ 0
-unfolding at_number
-zero_number values others zero e zero_is = refl
-zero_number values others (suc n) e zero_is = ap (λ xs. slice_index xs n) e ∙ zero_is n
-
-pub zero_behind : (c : Claim) (q : ℕ) (rows : List (List ℕ)) → ZeroFrom c.constants (q == 0) rows → ZeroBehind c q rows
-unfolding ZeroFrom
-zero_behind c q [] zero_is k n h = absurd (omega arith)
-zero_behind c q (r0 ∷ r1 ∷ r2 ∷ r3 ∷ r4 ∷ r5 ∷ r6 ∷ r7 ∷ rows) zero_is zero n h =
-    zero_number _ _ n (values_first c q r0 (Some r1)) zero_is.0.z0
-zero_behind c q (r0 ∷ r1 ∷ r2 ∷ r3 ∷ r4 ∷ r5 ∷ r6 ∷ r7 ∷ rows) zero_is (suc zero) n h =
-    zero_number _ _ n (values_later c q 1 r1 (Some r2) (lit< tt) (lit< tt)) zero_is.0.z1
-zero_behind c q (r0 ∷ r1 ∷ r2 ∷ r3 ∷ r4 ∷ r5 ∷ r6 ∷ r7 ∷ rows) zero_is (suc (suc zero)) n h =
-    zero_number _ _ n (values_later c q 2 r2 (Some r3) (lit< tt) (lit< tt)) zero_is.0.z2
-zero_behind c q (r0 ∷ r1 ∷ r2 ∷ r3 ∷ r4 ∷ r5 ∷ r6 ∷ r7 ∷ rows) zero_is (suc (suc (suc zero))) n h =
-    zero_number _ _ n (values_later c q 3 r3 (Some r4) (lit< tt) (lit< tt)) zero_is.0.z3
-zero_behind c q (r0 ∷ r1 ∷ r2 ∷ r3 ∷ r4 ∷ r5 ∷ r6 ∷ r7 ∷ rows) zero_is (suc (suc (suc (suc zero)))) n h =
-    zero_number _ _ n (values_later c q 4 r4 (Some r5) (lit< tt) (lit< tt)) zero_is.0.z4
-zero_behind c q (r0 ∷ r1 ∷ r2 ∷ r3 ∷ r4 ∷ r5 ∷ r6 ∷ r7 ∷ rows) zero_is (suc (suc (suc (suc (suc zero))))) n h =
-    zero_number _ _ n (values_later c q 5 r5 (Some r6) (lit< tt) (lit< tt)) zero_is.0.z5
-zero_behind c q (r0 ∷ r1 ∷ r2 ∷ r3 ∷ r4 ∷ r5 ∷ r6 ∷ r7 ∷ rows) zero_is (suc (suc (suc (suc (suc (suc zero)))))) n h =
-    zero_number _ _ n (values_later c q 6 r6 (Some r7) (lit< tt) (lit< tt)) zero_is.0.z6
-zero_behind c q (r0 ∷ r1 ∷ r2 ∷ r3 ∷ r4 ∷ r5 ∷ r6 ∷ r7 ∷ rows) zero_is (suc (suc (suc (suc (suc (suc (suc zero))))))) n h =
-    zero_number _ _ n (ap (λ next. hasher_values c (record { row = 8 * q + 7; cur = r7; next = next })) (first_is rows)
-    ∙ values_later c q 7 r7 (first_of rows) (lit< tt) (lit< tt)) zero_is.0.z7
-zero_behind c q (r0 ∷ r1 ∷ r2 ∷ r3 ∷ r4 ∷ r5 ∷ r6 ∷ r7 ∷ rows) zero_is (suc (suc (suc (suc (suc (suc (suc (suc k)))))))) n h =
-    ap (λ row. at_number (hasher_values c (record { row = row; cur = slice_index_or rows k []; next = slice_get rows (suc k) })) n)
-    (row_moved q k) ∙ zero_behind c (suc q) rows (subst (λ b. ZeroFrom c.constants b rows) (sym (not_first q)) zero_is.1) k n (omega arith)
-zero_behind c q _ zero_is k n h = absurd zero_is
+      f : ℕ → ℕ
+      f k = counted (given (i + k) (row_at all k)) u

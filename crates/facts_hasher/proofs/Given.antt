@@ -1,83 +1,97 @@
 -- Which permutation gives a tuple.
-use Rattle.std.proofs.Common.{if◌then◌else◌, ◌≡◌, ℕ, zero, suc, ◌+◌, ◌*◌, ◌<◌, ◌≤◌, ◌⊎◌, inl, inr, Bool, true, false, cond, List, [], ◌∷◌, ◌++◌, length, slice_index, take, drop, nat_eq, refl, sym, ap, ◌∙◌, arith}
-use Rattle.std.proofs.lemmas.Bool.{cases_Bool}
-use Rattle.std.specs.Cmp.Lexicographic.{same_text}
+use Rattle.std.proofs.Common.{Bool, List, [], ap, arith, cond, drop, false, if◌then◌else◌, length, nat_eq, refl, slice_index, suc, sym, take, true, zero, ℕ, ◌*◌, ◌++◌, ◌+◌, ◌<◌, ◌∙◌, ◌∷◌, ◌≡◌, ◌≤◌}
+use Rattle.std.proofs.Common.{inl, inr, ◌⊎◌}
 use lib.Pointwise.{pointwise}
 use Rattle.vm_field.specs.Permutation.{permuted}
-use Rattle.buses.specs.Counts.{counted, once}
+use Rattle.buses.specs.Counts.{Counted, counted, once}
 use Rattle.buses.proofs.Counting.{counted-none, counted-append}
 use Rattle.air_kit.specs.declared.requests.Perm.{Perm}
 use Rattle.air_kit.specs.Requests.{perm_begins, perm_ends, perms_given}
+use Rattle.facts_hasher.proofs.Totals.{once_own, once_same}
 
 -- the number behind a tuple's tag
 abbrev pub address_of : List ℕ → ℕ
 address_of u = slice_index u 1
 
--- what the first row of a permutation gives
-pub data BeginsAs (a : ℕ) (p : Perm) (u : List ℕ) : Type 0 where
-  enters : p.mode ≡ true → u ≡ 4 ∷ a ∷ p.start → BeginsAs a p u
-  goes_on : p.mode ≡ false → p.cont ≡ true → u ≡ 2 ∷ a ∷ drop 4 p.start → BeginsAs a p u
-  opens : p.mode ≡ false → p.cont ≡ false → u ≡ 1 ∷ a ∷ slice_index p.start 1 ∷ drop 4 p.start → BeginsAs a p u
+-- ---- what a permutation gives first and last, by its flags
 
--- what its last row gives
-pub data EndsAs (constants : List ℕ) (a : ℕ) (p : Perm) (u : List ℕ) : Type 0 where
-  leaves : p.mode ≡ true → u ≡ 5 ∷ a ∷ permuted constants p.start → EndsAs constants a p u
-  closes : p.mode ≡ false → p.more ≡ false → u ≡ 3 ∷ a ∷ take 4 (drop 4 (permuted constants p.start)) → EndsAs constants a p u
+abbrev pub begins_by : Bool → Bool → ℕ → List ℕ → List Counted
+begins_by m c a s =
+    if m then once (4 ∷ a ∷ s) ∷ [] else if c then once (2 ∷ a ∷ drop 4 s) ∷ [] else once (1 ∷ a ∷ slice_index s 1 ∷ drop 4 s) ∷ []
 
--- a tuple is given by one of the permutations, of which the first has this address
-unfoldable pub IsGivenBy : List ℕ → ℕ → List Perm → List ℕ → Type 0
-IsGivenBy constants a [] u = ⊥
-IsGivenBy constants a (p ∷ perms) u = BeginsAs a p u ⊎ (EndsAs constants (a + 7) p u ⊎ IsGivenBy constants (a + 8) perms u)
+abbrev pub ends_by : Bool → Bool → ℕ → List ℕ → List Counted
+ends_by m going a s = if m then once (5 ∷ a ∷ s) ∷ [] else if going then [] else once (3 ∷ a ∷ take 4 (drop 4 s)) ∷ []
 
--- ---- from counts
+-- the tuple of its first row, and that of its last row, if it has one
+abbrev pub begin_tuple : Bool → Bool → ℕ → List ℕ → List ℕ
+begin_tuple m c a s = (if m then 4 else if c then 2 else 1) ∷ a ∷ (if m then s else if c then drop 4 s else slice_index s 1 ∷ drop 4 s)
 
-missed : (b : Bool) (n : ℕ) → b ≡ false → n ≡ cond b 1 0 + 0 → n ≡ 0
-missed true n e is = absurd (cc)
-missed false n e is = is
+abbrev pub end_tuple : Bool → ℕ → List ℕ → List ℕ
+end_tuple m a s = (if m then 5 else 3) ∷ a ∷ (if m then s else take 4 (drop 4 s))
 
-once_same : (t u : List ℕ) → 0 < counted (once t ∷ []) u → u ≡ t
+begins_once : (m c : Bool) (a : ℕ) (s : List ℕ) → begins_by m c a s ≡ once (begin_tuple m c a s) ∷ []
+begins_once true c a s = refl
+begins_once false true a s = refl
+begins_once false false a s = refl
+
+ends_from : (m going : Bool) (a : ℕ) (s u : List ℕ) → 0 < counted (ends_by m going a s) u → (m ≡ false → going ≡ false) × (u ≡ end_tuple m a s)
+ends_from true going a s u h = (λ e. absurd (cc), once_same _ u h)
+ends_from false true a s u h = absurd (omega (arith, counted-none u, h))
+ends_from false false a s u h = (λ e. refl, once_same _ u h)
+
+ends_count : (m going : Bool) (a : ℕ) (s u : List ℕ) → (m ≡ false → going ≡ false) → u ≡ end_tuple m a s → 0 < counted (ends_by m going a s) u
+ends_count true going a s u last e = once_own _ u e
+ends_count false true a s u last e = absurd (let clash = last refl in cc)
+ends_count false false a s u last e = once_own _ u e
+
+once_few : (t u : List ℕ) → counted (once t ∷ []) u ≤ 1
 unfolding counted
-once_same t u h = elim (cases_Bool (pointwise nat_eq t u)) [
-  | inl is ↦ sym (same_text t u (sym is))
-  | inr not ↦ absurd (let e = missed (pointwise nat_eq t u) (counted (once t ∷ []) u) not refl in omega (arith, e, h))
-]
+once_few t u = elim (pointwise nat_eq t u) as (λ b. cond b 1 0 + 0 ≤ 1) [ true ↦ omega arith | false ↦ omega arith ]
 
-once_counts : (t u : List ℕ) → counted (once t ∷ []) u ≤ 1
-unfolding counted
-once_counts t u = elim (pointwise nat_eq t u) as (λ b. cond b 1 0 + 0 ≤ 1) [ true ↦ omega arith | false ↦ omega arith ]
+ends_few : (m going : Bool) (a : ℕ) (s u : List ℕ) → counted (ends_by m going a s) u ≤ 1
+ends_few true going a s u = once_few _ u
+ends_few false true a s u = omega (arith, counted-none u)
+ends_few false false a s u = once_few _ u
 
-none_counts : (u : List ℕ) → counted [] u ≤ 1
-none_counts u = omega (arith, counted-none u)
+-- ---- tuples by their tags
 
-begins_from : (a : ℕ) (p : Perm) (m c : Bool) (u : List ℕ) → p.mode ≡ m → p.cont ≡ c
-    → 0 < counted (if m then once (4 ∷ a ∷ p.start) ∷ []
-    else if c then once (2 ∷ a ∷ drop 4 p.start) ∷ [] else once (1 ∷ a ∷ slice_index p.start 1 ∷ drop 4 p.start) ∷ []) u
-    → BeginsAs a p u
-begins_from a p true c u em ec h = enters em (once_same _ u h)
-begins_from a p false true u em ec h = goes_on em ec (once_same _ u h)
-begins_from a p false false u em ec h = opens em ec (once_same _ u h)
+pub enters : (m c : Bool) (a b : ℕ) (s xs : List ℕ) → 4 ∷ b ∷ xs ≡ begin_tuple m c a s → xs ≡ s
+enters true c a b s xs e = ap (drop 2) e
+enters false true a b s xs e = absurd (cc)
+enters false false a b s xs e = absurd (cc)
 
-ends_from : (constants : List ℕ) (a : ℕ) (p : Perm) (m e : Bool) (u : List ℕ) → p.mode ≡ m → p.more ≡ e
-    → 0 < counted (if m then once (5 ∷ a ∷ permuted constants p.start) ∷ []
-    else if e then [] else once (3 ∷ a ∷ take 4 (drop 4 (permuted constants p.start))) ∷ []) u
-    → EndsAs constants a p u
-ends_from constants a p true e u em ee h = leaves em (once_same _ u h)
-ends_from constants a p false true u em ee h = absurd (omega (arith, counted-none u, h))
-ends_from constants a p false false u em ee h = closes em ee (once_same _ u h)
+pub goes_on : (m c : Bool) (a b : ℕ) (s xs : List ℕ) → 2 ∷ b ∷ xs ≡ begin_tuple m c a s → (c ≡ true) × (xs ≡ drop 4 s)
+goes_on true c a b s xs e = absurd (cc)
+goes_on false true a b s xs e = (refl, ap (drop 2) e)
+goes_on false false a b s xs e = absurd (cc)
 
-begins_most : (a : ℕ) (p : Perm) (m c : Bool) (u : List ℕ)
-    → counted (if m then once (4 ∷ a ∷ p.start) ∷ []
-    else if c then once (2 ∷ a ∷ drop 4 p.start) ∷ [] else once (1 ∷ a ∷ slice_index p.start 1 ∷ drop 4 p.start) ∷ []) u ≤ 1
-begins_most a p true c u = once_counts _ u
-begins_most a p false true u = once_counts _ u
-begins_most a p false false u = once_counts _ u
+pub opens : (m c : Bool) (a b : ℕ) (s xs : List ℕ) → 1 ∷ b ∷ xs ≡ begin_tuple m c a s
+    → (m ≡ false) × (c ≡ false) × (xs ≡ slice_index s 1 ∷ drop 4 s)
+opens true c a b s xs e = absurd (cc)
+opens false true a b s xs e = absurd (cc)
+opens false false a b s xs e = (refl, refl, ap (drop 2) e)
 
-ends_most : (constants : List ℕ) (a : ℕ) (p : Perm) (m e : Bool) (u : List ℕ)
-    → counted (if m then once (5 ∷ a ∷ permuted constants p.start) ∷ []
-    else if e then [] else once (3 ∷ a ∷ take 4 (drop 4 (permuted constants p.start))) ∷ []) u ≤ 1
-ends_most constants a p true e u = once_counts _ u
-ends_most constants a p false true u = none_counts u
-ends_most constants a p false false u = once_counts _ u
+pub leaves : (m : Bool) (a b : ℕ) (s xs : List ℕ) → 5 ∷ b ∷ xs ≡ end_tuple m a s → xs ≡ s
+leaves true a b s xs e = ap (drop 2) e
+leaves false a b s xs e = absurd (cc)
+
+pub closes : (m : Bool) (a b : ℕ) (s xs : List ℕ) → 3 ∷ b ∷ xs ≡ end_tuple m a s → (m ≡ false) × (xs ≡ take 4 (drop 4 s))
+closes true a b s xs e = absurd (cc)
+closes false a b s xs e = (refl, ap (drop 2) e)
+
+-- a last row's tuple has one of two tags
+pub end_tag : (m : Bool) (t a b : ℕ) (s xs : List ℕ) → t ∷ b ∷ xs ≡ end_tuple m a s → (t ≡ 5) ⊎ (t ≡ 3)
+end_tag true t a b s xs e = inl (cc)
+end_tag false t a b s xs e = inr (cc)
+
+-- ---- the permutation that gives a tuple
+
+-- one of these permutations, of which the first has this address
+pub data IsGivenBy (constants u : List ℕ) : ℕ → List Perm → Type 0 where
+  begins : {a : ℕ} {p : Perm} {perms : List Perm} → u ≡ begin_tuple p.mode p.cont a p.start → IsGivenBy constants u a (p ∷ perms)
+  ends : {a : ℕ} {p : Perm} {perms : List Perm} → (p.mode ≡ false → p.more ≡ false) → u ≡ end_tuple p.mode (a + 7) (permuted constants p.start)
+      → IsGivenBy constants u a (p ∷ perms)
+  later : {a : ℕ} {p : Perm} {perms : List Perm} → IsGivenBy constants u (a + 8) perms → IsGivenBy constants u a (p ∷ perms)
 
 -- the counts of the first permutation and of those behind it
 pub head_is : (constants : List ℕ) (a : ℕ) (p : Perm) (perms : List Perm) (u : List ℕ)
@@ -93,78 +107,66 @@ one_of_three zero zero m h = inr (inr (omega (arith, h)))
 one_of_three zero (suc l) m h = inr (inl (omega arith))
 one_of_three (suc k) l m h = inl (omega arith)
 
-pub given_by_one : (constants : List ℕ) (a : ℕ) (perms : List Perm) (u : List ℕ) → 0 < counted (perms_given constants a perms) u
-    → IsGivenBy constants a perms u
-unfolding IsGivenBy perms_given
-given_by_one constants a [] u h = omega (arith, counted-none u, h)
-given_by_one constants a (p ∷ perms) u h =
-    elim (one_of_three (counted (perm_begins a p) u) (counted (perm_ends constants (a + 7) p) u) (counted (perms_given constants (a + 8) perms) u)
-    (let e = head_is constants a p perms u in omega (arith, e, h))) [
-      | inl k ↦ inl (begins_from a p p.mode p.cont u refl refl k)
-      | inr later ↦ inr (elim later [
-        | inl k ↦ inl (ends_from constants (a + 7) p p.mode p.more u refl refl k)
-        | inr k ↦ inr (given_by_one constants (a + 8) perms u k)
-      ])
-    ]
+begun : (a : ℕ) (p : Perm) (u : List ℕ) → 0 < counted (perm_begins a p) u → u ≡ begin_tuple p.mode p.cont a p.start
+begun a p u h = once_same _ u (rw begins_once at h)
+
+module _ (constants : List ℕ) where
+  -- how often they give it
+  abbrev pub given : ℕ → List Perm → List ℕ → ℕ
+  given a perms u = counted (perms_given constants a perms) u
+
+  pub from_count : (a : ℕ) (perms : List Perm) (u : List ℕ) → 0 < given a perms u → IsGivenBy constants u a perms
+  unfolding perms_given
+  from_count a [] u h = absurd (omega (arith, counted-none u, h))
+  from_count a (p ∷ perms) u h =
+      elim (one_of_three (counted (perm_begins a p) u) (counted (perm_ends constants (a + 7) p) u) (given (a + 8) perms u)
+      (let e = head_is constants a p perms u in omega (arith, e, h))) [
+        | inl k ↦ begins (begun a p u k)
+        | inr (inl k) ↦ let e = ends_from p.mode p.more (a + 7) (permuted constants p.start) u k in ends e.0 e.1
+        | inr (inr k) ↦ later (from_count (a + 8) perms u k)
+      ]
+
+  pub to_count : {u : List ℕ} {a : ℕ} {perms : List Perm} → IsGivenBy constants u a perms → 0 < given a perms u
+  to_count {u} {a} (begins {p = p} {perms = perms} e) =
+      let k : 0 < counted (perm_begins a p) u = rw begins_once (once_own _ u e) in let all = head_is constants a p perms u in omega (arith, all, k)
+  to_count {u} {a} (ends {p = p} {perms = perms} last e) =
+      let k = ends_count p.mode p.more (a + 7) (permuted constants p.start) u last e in
+      let all = head_is constants a p perms u in omega (arith, all, k)
+  to_count {u} {a} (later {p = p} {perms = perms} g) =
+      let k = to_count g in let all = head_is constants a p perms u in omega (arith, all, k)
 
 -- ---- addresses
 
-pub begins-address : (a : ℕ) (p : Perm) (u : List ℕ) → BeginsAs a p u → address_of u ≡ a
-begins-address a p u (enters m e) = ap (λ xs. slice_index xs 1) e
-begins-address a p u (goes_on m c e) = ap (λ xs. slice_index xs 1) e
-begins-address a p u (opens m c e) = ap (λ xs. slice_index xs 1) e
-
-pub ends-address : (constants : List ℕ) (a : ℕ) (p : Perm) (u : List ℕ) → EndsAs constants a p u → address_of u ≡ a
-ends-address constants a p u (leaves m e) = ap (λ xs. slice_index xs 1) e
-ends-address constants a p u (closes m c e) = ap (λ xs. slice_index xs 1) e
-
-pub given-address : (constants : List ℕ) (a : ℕ) (perms : List Perm) (u : List ℕ) → IsGivenBy constants a perms u
+pub given-address : {constants u : List ℕ} {a : ℕ} {perms : List Perm} → IsGivenBy constants u a perms
     → (a ≤ address_of u) × (address_of u < a + 8 * length perms)
-unfolding IsGivenBy
-given-address constants a [] u g = absurd g
-given-address constants a (p ∷ perms) u (inl b) = let e = begins-address a p u b in (omega (arith, e), omega (arith, e))
-given-address constants a (p ∷ perms) u (inr (inl b)) = let e = ends-address constants (a + 7) p u b in (omega (arith, e), omega (arith, e))
-given-address constants a (p ∷ perms) u (inr (inr g)) =
-    let e = given-address constants (a + 8) perms u g in (let l = e.0 in omega (arith, l), let l = e.1 in omega (arith, l))
+given-address {u = u} {a = a} (begins e) = let k : address_of u ≡ a = ap address_of e in (omega (arith, k), omega (arith, k))
+given-address {u = u} {a = a} (ends last e) = let k : address_of u ≡ a + 7 = ap address_of e in (omega (arith, k), omega (arith, k))
+given-address (later g) = let k = given-address g in (let l = k.0 in omega (arith, l), let l = k.1 in omega (arith, l))
 
--- ---- one tuple at an address, once
+module _ {constants u : List ℕ} {a : ℕ} {p : Perm} {perms : List Perm} where
+  -- the address says by which row of the first permutation, or behind it, a tuple is given
+  pub at_begin : address_of u ≡ a → IsGivenBy constants u a (p ∷ perms) → u ≡ begin_tuple p.mode p.cont a p.start
+  at_begin h (begins e) = e
+  at_begin h (ends last e) = absurd (let k : address_of u ≡ a + 7 = ap address_of e in omega (arith, h, k))
+  at_begin h (later g) = absurd (let k = (given-address g).0 in omega (arith, h, k))
 
-begins-same : (a : ℕ) (p : Perm) (u v : List ℕ) → BeginsAs a p u → BeginsAs a p v → u ≡ v
-begins-same a p u v (enters m e) (enters n f) = e ∙ sym f
-begins-same a p u v (enters m e) (goes_on n d f) = absurd (cc)
-begins-same a p u v (enters m e) (opens n d f) = absurd (cc)
-begins-same a p u v (goes_on m c e) (enters n f) = absurd (cc)
-begins-same a p u v (goes_on m c e) (goes_on n d f) = e ∙ sym f
-begins-same a p u v (goes_on m c e) (opens n d f) = absurd (cc)
-begins-same a p u v (opens m c e) (enters n f) = absurd (cc)
-begins-same a p u v (opens m c e) (goes_on n d f) = absurd (cc)
-begins-same a p u v (opens m c e) (opens n d f) = e ∙ sym f
+  pub at_end : address_of u ≡ a + 7 → IsGivenBy constants u a (p ∷ perms)
+      → (p.mode ≡ false → p.more ≡ false) × (u ≡ end_tuple p.mode (a + 7) (permuted constants p.start))
+  at_end h (begins e) = absurd (let k : address_of u ≡ a = ap address_of e in omega (arith, h, k))
+  at_end h (ends last e) = (last, e)
+  at_end h (later g) = absurd (let k = (given-address g).0 in omega (arith, h, k))
 
-ends-same : (constants : List ℕ) (a : ℕ) (p : Perm) (u v : List ℕ) → EndsAs constants a p u → EndsAs constants a p v → u ≡ v
-ends-same constants a p u v (leaves m e) (leaves n f) = e ∙ sym f
-ends-same constants a p u v (leaves m e) (closes n d f) = absurd (cc)
-ends-same constants a p u v (closes m c e) (leaves n f) = absurd (cc)
-ends-same constants a p u v (closes m c e) (closes n d f) = e ∙ sym f
+  pub at_later : a + 8 ≤ address_of u → IsGivenBy constants u a (p ∷ perms) → IsGivenBy constants u (a + 8) perms
+  at_later h (begins e) = absurd (let k : address_of u ≡ a = ap address_of e in omega (arith, h, k))
+  at_later h (ends last e) = absurd (let k : address_of u ≡ a + 7 = ap address_of e in omega (arith, h, k))
+  at_later h (later g) = g
 
-pub given-same : (constants : List ℕ) (a : ℕ) (perms : List Perm) (u v : List ℕ) → address_of u ≡ address_of v
-    → IsGivenBy constants a perms u → IsGivenBy constants a perms v → u ≡ v
-unfolding IsGivenBy
-given-same constants a [] u v same g h = absurd g
-given-same constants a (p ∷ perms) u v same (inl g) (inl h) = begins-same a p u v g h
-given-same constants a (p ∷ perms) u v same (inl g) (inr (inl h)) =
-    absurd (let e = begins-address a p u g in let f = ends-address constants (a + 7) p v h in omega (arith, e, f, same))
-given-same constants a (p ∷ perms) u v same (inl g) (inr (inr h)) =
-    absurd (let e = begins-address a p u g in let f = (given-address constants (a + 8) perms v h).0 in omega (arith, e, f, same))
-given-same constants a (p ∷ perms) u v same (inr (inl g)) (inl h) =
-    absurd (let e = begins-address a p v h in let f = ends-address constants (a + 7) p u g in omega (arith, e, f, same))
-given-same constants a (p ∷ perms) u v same (inr (inl g)) (inr (inl h)) = ends-same constants (a + 7) p u v g h
-given-same constants a (p ∷ perms) u v same (inr (inl g)) (inr (inr h)) =
-    absurd (let e = ends-address constants (a + 7) p u g in let f = (given-address constants (a + 8) perms v h).0 in omega (arith, e, f, same))
-given-same constants a (p ∷ perms) u v same (inr (inr g)) (inl h) =
-    absurd (let e = begins-address a p v h in let f = (given-address constants (a + 8) perms u g).0 in omega (arith, e, f, same))
-given-same constants a (p ∷ perms) u v same (inr (inr g)) (inr (inl h)) =
-    absurd (let e = ends-address constants (a + 7) p v h in let f = (given-address constants (a + 8) perms u g).0 in omega (arith, e, f, same))
-given-same constants a (p ∷ perms) u v same (inr (inr g)) (inr (inr h)) = given-same constants (a + 8) perms u v same g h
+-- one tuple at an address
+pub given-same : {constants u v : List ℕ} {a : ℕ} {perms : List Perm} → address_of u ≡ address_of v → IsGivenBy constants u a perms
+    → IsGivenBy constants v a perms → u ≡ v
+given-same same (begins e) h = e ∙ sym (at_begin (sym same ∙ ap address_of e) h)
+given-same same (ends last e) h = e ∙ sym (at_end (sym same ∙ ap address_of e) h).1
+given-same same (later g) h = given-same same g (at_later (let k = (given-address g).0 in omega (arith, same, k)) h)
 
 -- at most one of three counts is not 0
 at_most : (k l m : ℕ) → k ≤ 1 → l ≤ 1 → m ≤ 1 → (0 < k → 0 < l → ⊥) → (0 < k → 0 < m → ⊥) → (0 < l → 0 < m → ⊥) → k + (l + m) ≤ 1
@@ -175,22 +177,23 @@ at_most (suc k) zero zero hk hl hm kl km lm = omega arith
 at_most (suc k) zero (suc m) hk hl hm kl km lm = absurd (km (omega arith) (omega arith))
 at_most (suc k) (suc l) m hk hl hm kl km lm = absurd (kl (omega arith) (omega arith))
 
-pub given-once : (constants : List ℕ) (a : ℕ) (perms : List Perm) (u : List ℕ) → counted (perms_given constants a perms) u ≤ 1
+-- and that once
+pub given-once : (constants : List ℕ) (a : ℕ) (perms : List Perm) (u : List ℕ) → given constants a perms u ≤ 1
 unfolding perms_given
-given-once constants a [] u = none_counts u
+given-once constants a [] u = omega (arith, counted-none u)
 given-once constants a (p ∷ perms) u =
-    let whole = at_most (counted (perm_begins a p) u) (counted (perm_ends constants (a + 7) p) u) (counted (perms_given constants (a + 8) perms) u)
-    (begins_most a p p.mode p.cont u) (ends_most constants (a + 7) p p.mode p.more u) (given-once constants (a + 8) perms u)
-    (λ k l. let e = begun k in let f = ended l in omega (arith, e, f))
-    (λ k m. let e = begun k in let f = behind m in omega (arith, e, f))
-    (λ l m. let e = ended l in let f = behind m in omega (arith, e, f)) in
+    let whole = at_most (counted (perm_begins a p) u) (counted (perm_ends constants (a + 7) p) u) (given constants (a + 8) perms u)
+    (rw begins_once (once_few _ u)) (ends_few p.mode p.more (a + 7) (permuted constants p.start) u) (given-once constants (a + 8) perms u)
+    (λ k l. let e = first k in let f = last l in omega (arith, e, f))
+    (λ k m. let e = first k in let f = behind m in omega (arith, e, f))
+    (λ l m. let e = last l in let f = behind m in omega (arith, e, f)) in
     let e = head_is constants a p perms u in omega (arith, e, whole)
   where
-    begun : 0 < counted (perm_begins a p) u → address_of u ≡ a
-    begun k = begins-address a p u (begins_from a p p.mode p.cont u refl refl k)
+    first : 0 < counted (perm_begins a p) u → address_of u ≡ a
+    first k = ap address_of (begun a p u k)
 
-    ended : 0 < counted (perm_ends constants (a + 7) p) u → address_of u ≡ a + 7
-    ended k = ends-address constants (a + 7) p u (ends_from constants (a + 7) p p.mode p.more u refl refl k)
+    last : 0 < counted (perm_ends constants (a + 7) p) u → address_of u ≡ a + 7
+    last k = ap address_of (ends_from p.mode p.more (a + 7) (permuted constants p.start) u k).1
 
-    behind : 0 < counted (perms_given constants (a + 8) perms) u → a + 8 ≤ address_of u
-    behind k = (given-address constants (a + 8) perms u (given_by_one constants (a + 8) perms u k)).0
+    behind : 0 < given constants (a + 8) perms u → a + 8 ≤ address_of u
+    behind k = (given-address (from_count constants (a + 8) perms u k)).0

@@ -1,160 +1,72 @@
 -- The hash computations that rows show are given.
-use Rattle.std.proofs.Common.{◌≡◌, ℕ, zero, suc, ◌+◌, ◌*◌, ◌<◌, inl, inr, Bool, true, false, cond, if◌then◌else◌, List, [], ◌∷◌, ◌++◌, slice_index, take, drop, nat_eq, All, refl, sym, ap, subst, ◌∙◌, arith}
-use Rattle.std.proofs.lemmas.Bool.{cases_Bool}
-use Rattle.std.proofs.lemmas.List.Elements.{All-head, All-drop}
-use lib.Pointwise.{pointwise}
+use Rattle.std.proofs.Common.{Bool, List, [], ap, ap₂, arith, drop, false, if◌then◌else◌, refl, subst, sym, take, true, ℕ, ◌++◌, ◌+◌, ◌<◌, ◌∙◌, ◌∷◌, ◌≡◌}
+use Rattle.std.proofs.lemmas.Bool.{false_from_ne_true}
 use Rattle.vm_field.specs.Permutation.{permuted}
-use Rattle.vm_field.specs.Sponge.{sponge_after, squeezed, hashed}
-use Rattle.buses.specs.Counts.{counted, once}
-use Rattle.buses.proofs.Counting.{tuple-same}
-use Rattle.rpo_hash.specs.States.{IsState}
+use Rattle.vm_field.specs.Sponge.{HashInput, sponge_after, squeezed, hashed}
 use Rattle.air_kit.specs.declared.requests.Perm.{Perm}
-use Rattle.air_kit.specs.Requests.{FollowsOn, perms_given}
-use Rattle.facts_hasher.proofs.Given.{BeginsAs, enters, goes_on, opens, EndsAs, leaves, closes, IsGivenBy, head_is}
-use Rattle.facts_hasher.proofs.MeaningLemmas.{blocks_in, GivesOnBy, joined, start_is}
+use Rattle.air_kit.specs.Requests.{FollowsOn}
+use Rattle.facts_hasher.specs.HashMeaning.{GivesOn, IsGivenWhole}
+use Rattle.facts_hasher.proofs.Given.{begin_tuple, begins, end_tuple, ends, from_count, given, later, to_count}
+use Rattle.facts_hasher.proofs.MeaningLemmas.{ComputesAt, blocks_in, further, gives_on, here, joined, start_is}
+use Rattle.facts_hasher.proofs.RowLemmas.{OfStates, first_state, later_states}
 
--- ---- to counts
+-- what is given whole is so where no less is given
+pub given_whole : {constants : List ℕ} (f g : List ℕ → ℕ) → ((u : List ℕ) → 0 < f u → 0 < g u) → {b : ℕ} {input : HashInput}
+    → IsGivenWhole constants f b input → IsGivenWhole constants g b input
+given_whole f g more {b} w = record {
+  block = w.block;
+  blocks = w.blocks;
+  blocks_are = w.blocks_are;
+  opens = more _ w.opens;
+  goes_on = gives_on f g 0 (λ u h. more u) b w.blocks _ (omega arith) w.goes_on;
+}
 
-own_is : (b : Bool) (n : ℕ) → b ≡ true → n ≡ cond b 1 0 + 0 → n ≡ 1
-own_is true n e is = is
-own_is false n e is = absurd (cc)
+-- the blocks behind a permutation's own
+abbrev further_blocks : Bool → List Perm → List (List ℕ)
+further_blocks going rest = if going then blocks_in rest else []
 
-once_own : (t u : List ℕ) → u ≡ t → 0 < counted (once t ∷ []) u
-unfolding counted
-once_own t u same =
-    let e = own_is (pointwise nat_eq t u) (counted (once t ∷ []) u) (ap (pointwise nat_eq t) same ∙ tuple-same t) refl in omega (arith, e)
+module _ (constants : List ℕ) where
+  earlier : (a : ℕ) (p : Perm) (perms : List Perm) (u : List ℕ) → 0 < given constants (a + 8) perms u → 0 < given constants a (p ∷ perms) u
+  earlier a p perms u k = to_count constants (later (from_count constants (a + 8) perms u k))
 
-begins_counts : (a : ℕ) (p : Perm) (m c : Bool) (u : List ℕ) → p.mode ≡ m → p.cont ≡ c → BeginsAs a p u
-    → 0 < counted (if m then once (4 ∷ a ∷ p.start) ∷ []
-    else if c then once (2 ∷ a ∷ drop 4 p.start) ∷ [] else once (1 ∷ a ∷ slice_index p.start 1 ∷ drop 4 p.start) ∷ []) u
-begins_counts a p true c u em ec (enters m e) = once_own _ u e
-begins_counts a p true c u em ec (goes_on m d e) = absurd (cc)
-begins_counts a p true c u em ec (opens m d e) = absurd (cc)
-begins_counts a p false true u em ec (enters m e) = absurd (cc)
-begins_counts a p false true u em ec (goes_on m d e) = once_own _ u e
-begins_counts a p false true u em ec (opens m d e) = absurd (cc)
-begins_counts a p false false u em ec (enters m e) = absurd (cc)
-begins_counts a p false false u em ec (goes_on m d e) = absurd (cc)
-begins_counts a p false false u em ec (opens m d e) = once_own _ u e
+  -- what goes on behind a permutation
+  gives_chain : (a : ℕ) (p : Perm) (rest : List Perm) (going : Bool) → p.more ≡ going → p.mode ≡ false
+      → FollowsOn constants p.more (permuted constants p.start) rest
+      → GivesOn (given constants a (p ∷ rest)) a (further_blocks going rest)
+      (squeezed (sponge_after constants (permuted constants p.start) (further_blocks going rest)))
+  unfolding GivesOn blocks_in
+  gives_chain a p rest false e m f =
+      to_count constants (ends (λ _. e) (sym (ap (λ b. end_tuple b (a + 7) (permuted constants p.start)) m)))
+  gives_chain a p [] true e m f = absurd (cc)
+  gives_chain a p (q ∷ rest) true e m f =
+      let c : q.cont ≡ true = f.0 ∙ e in
+      let n : q.mode ≡ false = false_from_ne_true q.mode (λ is. let none = (f.1 is).0 in cc) in
+      let same : take 4 (permuted constants p.start) ++ drop 4 q.start ≡ q.start =
+      ap (λ (xs : List ℕ). xs ++ drop 4 q.start) (sym (f.2 c)) ∙ joined 4 q.start in (
+        to_count constants (later (begins (sym (ap₂ (λ m c. begin_tuple m c (a + 8) q.start) n c)))),
+        gives_on (given constants (a + 8) (q ∷ rest)) (given constants a (p ∷ q ∷ rest)) 0 (λ u h. earlier a p (q ∷ rest) u) (a + 8)
+            (further_blocks q.more rest) _ (omega arith)
+            (subst (λ s. GivesOn (given constants (a + 8) (q ∷ rest)) (a + 8) (further_blocks q.more rest)
+            (squeezed (sponge_after constants (permuted constants s) (further_blocks q.more rest)))) (sym same)
+            (gives_chain (a + 8) q rest q.more refl n f.4)),
+      )
 
-ends_counts : (constants : List ℕ) (a : ℕ) (p : Perm) (m g : Bool) (u : List ℕ) → p.mode ≡ m → p.more ≡ g → EndsAs constants a p u
-    → 0 < counted (if m then once (5 ∷ a ∷ permuted constants p.start) ∷ []
-    else if g then [] else once (3 ∷ a ∷ take 4 (drop 4 (permuted constants p.start))) ∷ []) u
-ends_counts constants a p true g u em eg (leaves m e) = once_own _ u e
-ends_counts constants a p true g u em eg (closes m d e) = absurd (cc)
-ends_counts constants a p false true u em eg (leaves m e) = absurd (cc)
-ends_counts constants a p false true u em eg (closes m d e) = absurd (cc)
-ends_counts constants a p false false u em eg (leaves m e) = absurd (cc)
-ends_counts constants a p false false u em eg (closes m d e) = once_own _ u e
-
-pub given_counts : (constants : List ℕ) (a : ℕ) (perms : List Perm) (u : List ℕ) → IsGivenBy constants a perms u
-    → 0 < counted (perms_given constants a perms) u
-unfolding IsGivenBy
-given_counts constants a [] u g = absurd g
-given_counts constants a (p ∷ perms) u (inl g) =
-    let k = begins_counts a p p.mode p.cont u refl refl g in let e = head_is constants a p perms u in omega (arith, e, k)
-given_counts constants a (p ∷ perms) u (inr (inl g)) =
-    let k = ends_counts constants (a + 7) p p.mode p.more u refl refl g in let e = head_is constants a p perms u in omega (arith, e, k)
-given_counts constants a (p ∷ perms) u (inr (inr g)) =
-    let k = given_counts constants (a + 8) perms u g in let e = head_is constants a p perms u in omega (arith, e, k)
-
--- ---- what goes on behind a permutation
-
--- those behind the first are among all
-earlier_on : (constants : List ℕ) (a : ℕ) (p : Perm) (perms : List Perm) (b : ℕ) (blocks : List (List ℕ)) (digest : List ℕ)
-    → GivesOnBy constants (a + 8) perms b blocks digest → GivesOnBy constants a (p ∷ perms) b blocks digest
-unfolding GivesOnBy IsGivenBy
-earlier_on constants a p perms b [] digest g = inr (inr g)
-earlier_on constants a p perms b (block ∷ blocks) digest g = (inr (inr g.0), earlier_on constants a p perms (b + 8) blocks digest g.1)
-
-not_hperm : (q : Perm) → (q.mode ≡ true → (q.cont ≡ false) × (q.more ≡ false)) → q.cont ≡ true → q.mode ≡ false
-not_hperm q apart c = elim (cases_Bool q.mode) [
-  | inl is ↦ absurd (let e = (apart is).0 in cc)
-  | inr not ↦ not
-]
-
-abbrev pub further : Bool → List Perm → List (List ℕ)
-further going rest = if going then blocks_in rest else []
-
-gives_chain : (constants : List ℕ) (a : ℕ) (p : Perm) (rest : List Perm) (going : Bool) → p.more ≡ going → p.mode ≡ false
-    → FollowsOn constants p.more (permuted constants p.start) rest
-    → GivesOnBy constants a (p ∷ rest) a (further going rest) (squeezed (sponge_after constants (permuted constants p.start) (further going rest)))
-unfolding GivesOnBy IsGivenBy blocks_in
-gives_chain constants a p rest false e m f = inr (inl (closes m e refl))
-gives_chain constants a p [] true e m f = absurd (cc)
-gives_chain constants a p (q ∷ rest) true e m f =
-    let c : q.cont ≡ true = f.0 ∙ e in
-    let n = not_hperm q f.1 c in
-    let same : take 4 (permuted constants p.start) ++ drop 4 q.start ≡ q.start =
-    ap (λ (xs : List ℕ). xs ++ drop 4 q.start) (sym (f.2 c)) ∙ joined 4 q.start in (
-      inr (inr (inl (goes_on n c refl))),
-      earlier_on constants a p (q ∷ rest) (a + 8) (further q.more rest) _
-          (subst (λ s. GivesOnBy constants (a + 8) (q ∷ rest) (a + 8) (further q.more rest)
-          (squeezed (sponge_after constants (permuted constants s) (further q.more rest)))) (sym same)
-          (gives_chain constants (a + 8) q rest q.more refl n f.4)),
-    )
-
--- a hash that the first permutation opens
-gives_first : (constants : List ℕ) (a : ℕ) (p : Perm) (rest : List Perm) → IsState p.start → p.mode ≡ false → p.cont ≡ false
-    → (p.mode ≡ false → p.cont ≡ false → (slice_index p.start 0 ≡ 0) × (slice_index p.start 2 ≡ 0) × (slice_index p.start 3 ≡ 0))
-    → FollowsOn constants p.more (permuted constants p.start) rest
-    → GivesOnBy constants a (p ∷ rest) a (further p.more rest) (hashed constants (slice_index p.start 1) (drop 4 p.start ∷ further p.more rest))
-unfolding hashed
-gives_first constants a p rest s m c zeros f =
-    let z = zeros m c in
-    subst (λ xs. GivesOnBy constants a (p ∷ rest) a (further p.more rest)
-    (squeezed (sponge_after constants (permuted constants xs) (further p.more rest))))
-    (sym (start_is p.start s.size z.0 z.1 z.2)) (gives_chain constants a p rest p.more refl m f)
-
--- behind so many permutations
-behind_by : (constants : List ℕ) (a k : ℕ) (perms : List Perm) (u : List ℕ) → IsGivenBy constants (a + 8 * k) (drop k perms) u
-    → IsGivenBy constants a perms u
-unfolding IsGivenBy
-behind_by constants a zero perms u g = let e : a + 8 * 0 ≡ a = omega arith in subst (λ n. IsGivenBy constants n perms u) e g
-behind_by constants a (suc k) [] u g = g
-behind_by constants a (suc k) (p ∷ perms) u g =
-    let e : a + 8 * suc k ≡ (a + 8) + 8 * k = omega arith in
-    inr (inr (behind_by constants (a + 8) k perms u (subst (λ n. IsGivenBy constants n (drop k perms) u) e g)))
-
-behind_on : (constants : List ℕ) (a k : ℕ) (perms : List Perm) (b : ℕ) (blocks : List (List ℕ)) (digest : List ℕ)
-    → GivesOnBy constants (a + 8 * k) (drop k perms) b blocks digest → GivesOnBy constants a perms b blocks digest
-unfolding GivesOnBy
-behind_on constants a k perms b [] digest g = behind_by constants a k perms _ g
-behind_on constants a k perms b (block ∷ blocks) digest g =
-    (behind_by constants a k perms _ g.0, behind_on constants a k perms (b + 8) blocks digest g.1)
-
-follows_behind : (constants : List ℕ) (k : ℕ) (going : Bool) (last : List ℕ) (perms : List Perm) → FollowsOn constants going last perms
-    → (before : Bool) × ((state : List ℕ) × FollowsOn constants before state (drop k perms))
-follows_behind constants zero going last perms f = (going, (last, f))
-follows_behind constants (suc k) going last [] f = (going, (last, f))
-follows_behind constants (suc k) going last (p ∷ perms) f = follows_behind constants k p.more (permuted constants p.start) perms f.4
-
--- the hash that permutation k opens is given
-pub record IsOpened (constants : List ℕ) (perms : List Perm) (address domain : ℕ) (block : List ℕ) (blocks : List (List ℕ)) : Type 0 where
-  pub opens_by : IsGivenBy constants 1 perms (1 ∷ address ∷ domain ∷ block)
-  pub goes_on_by : GivesOnBy constants 1 perms address blocks (hashed constants domain (block ∷ blocks))
-
-first_opens : (constants : List ℕ) (a : ℕ) (p : Perm) (rest : List Perm) → p.mode ≡ false → p.cont ≡ false
-    → IsGivenBy constants a (p ∷ rest) (1 ∷ a ∷ slice_index p.start 1 ∷ drop 4 p.start)
-unfolding IsGivenBy
-first_opens constants a p rest m c = inl (opens m c refl)
-
-pub opened_by : (constants : List ℕ) (k : ℕ) (perms : List Perm) (p : Perm) (rest : List Perm) → All (λ p. IsState p.start) perms
-    → FollowsOn constants false [] perms → drop k perms ≡ p ∷ rest → p.mode ≡ false → p.cont ≡ false
-    → IsOpened constants perms (1 + 8 * k) (slice_index p.start 1) (drop 4 p.start) (further p.more rest)
-opened_by constants k perms p rest s f is m c =
-    let g = follows_behind constants k false [] perms f in
-    let h : FollowsOn constants g.0 g.1.0 (p ∷ rest) = subst (λ ps. FollowsOn constants g.0 g.1.0 ps) is g.1.1 in
-    let own = All-head (λ p. IsState p.start) p rest (subst (λ ps. All (λ p. IsState p.start) ps) is (All-drop (λ p. IsState p.start) k perms s)) in
-    let u = 1 ∷ (1 + 8 * k) ∷ slice_index p.start 1 ∷ drop 4 p.start in
-    let blocks = further p.more rest in
-    let digest = hashed constants (slice_index p.start 1) (drop 4 p.start ∷ further p.more rest) in
-    record {
-      opens_by =
-          behind_by constants 1 k perms u
-          (subst (λ ps. IsGivenBy constants (1 + 8 * k) ps u) (sym is) (first_opens constants (1 + 8 * k) p rest m c));
-      goes_on_by =
-          behind_on constants 1 k perms (1 + 8 * k) blocks digest
-          (subst (λ ps. GivesOnBy constants (1 + 8 * k) ps (1 + 8 * k) blocks digest) (sym is)
-          (gives_first constants (1 + 8 * k) p rest own m c h.3 h.4));
-    }
+  -- a hash that a permutation opens is given
+  pub opened : {a : ℕ} {perms : List Perm} {b : ℕ} {input : HashInput} (going : Bool) (last : List ℕ) → OfStates perms
+      → FollowsOn constants going last perms → ComputesAt a perms b input → IsGivenWhole constants (given constants a perms) b input
+  unfolding blocks_in hashed
+  opened going last s f (here {a = a} {p = p} {rest = rest} m c) =
+      let z = f.3 m c in
+      record {
+        block = drop 4 p.start;
+        blocks = further_blocks p.more rest;
+        blocks_are = refl;
+        opens = to_count constants (begins (sym (ap₂ (λ m c. begin_tuple m c a p.start) m c)));
+        goes_on =
+            subst (λ xs. GivesOn (given constants a (p ∷ rest)) a (further_blocks p.more rest)
+            (squeezed (sponge_after constants (permuted constants xs) (further_blocks p.more rest))))
+            (sym (start_is p.start (first_state p rest s).size z.0 z.1 z.2)) (gives_chain a p rest p.more refl m f.4);
+      }
+  opened going last s f (further {a = a} {p = p} {rest = rest} at) =
+      given_whole (given constants (a + 8) rest) (given constants a (p ∷ rest)) (earlier a p rest)
+      (opened p.more (permuted constants p.start) (later_states p rest s) f.4 at)

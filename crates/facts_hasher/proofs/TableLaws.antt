@@ -9,26 +9,24 @@ use Rattle.air_kit.specs.ChipTuples.{chip_given}
 use Rattle.air_kit.specs.Places.{Claim}
 use Rattle.facts_hasher.specs.PermRows.{rows_of_perms, perms_in}
 use Rattle.facts_hasher.specs.HashTables.{HasherIsZero, PermsFit, ArePermRows, ShowsPerms}
-use Rattle.facts_hasher.proofs.ZerosAreRows.{fit_of, are_rows}
+use Rattle.facts_hasher.proofs.ZerosAreRows.{whole_fits}
 use Rattle.facts_hasher.proofs.RowsAreZero.{rows_of-size, rows_are_zero, perms_again}
 use Rattle.facts_hasher.proofs.GivenLemmas.{rows_give}
 
 pub zeros_are_rows : (c : Claim) (rows : List (List ℕ)) → length c.constants ≡ number_of_constants → HasherIsZero c rows → ArePermRows c.constants rows
-zeros_are_rows c rows len z = record {
-  fit = fit;
-  rows_are = are_rows c rows len z;
-  given = λ u.
-      ap (λ xs. over_rows (chip_given bus.Hasher table.Hasher) xs u) (are_rows c rows len z)
-      ∙ rows_give c.constants (perms_in rows) u len fit.states;
-}
-  where
-    fit : PermsFit c.constants (perms_in rows)
-    fit = fit_of c rows len z
+zeros_are_rows c rows len z =
+    let fit = whole_fits c len rows z in
+    record {
+      fit = record { follows = fit.follows; states = fit.states };
+      rows_are = fit.rows_are;
+      given = λ u.
+          ap (λ xs. over_rows (chip_given bus.Hasher table.Hasher) xs u) fit.rows_are ∙ rows_give c.constants len (perms_in rows) u fit.states;
+    }
 
 pub rows_show : (c : Claim) (perms : List Perm) → length c.constants ≡ number_of_constants → PermsFit c.constants perms → ShowsPerms c perms (rows_of_perms c.constants perms)
 rows_show c perms len fit = record {
   size = rows_of-size c.constants perms;
-  zero = rows_are_zero c perms len fit;
-  perms_are = perms_again c.constants perms len fit.states;
-  given = λ u. rows_give c.constants perms u len fit.states;
+  zero = rows_are_zero c len perms fit;
+  perms_are = perms_again c.constants len perms fit.states;
+  given = λ u. rows_give c.constants len perms u fit.states;
 }

@@ -2,6 +2,7 @@
 use Rattle.facts_memory.proofs.Words.{◌≡◌, ℕ, zero, suc, ◌+◌, ◌<◌, ◌⊎◌, inl, inr, ⊎_elim, cond, nat_eq, List, [], ◌∷◌, length, Option, Some, None, refl, sym}
 use Rattle.facts_memory.proofs.Words.{ap, subst, ◌∙◌, arith, cases_Bool, tuple-same, Access, access_given, AreSmall, access_at, AreAsked, AreAsks, GivesAsks}
 use Rattle.facts_memory.proofs.Words.{HasRow, asked_of}
+use Rattle.facts_memory.proofs.Numbers.{last_or}
 use Rattle.std.specs.Cmp.Lexicographic.{same_text}
 use lib.Pointwise.{pointwise}
 use Rattle.buses.specs.Counts.{counted, hits, once, over_first, over_rows, total}
@@ -20,9 +21,6 @@ positive_part : (a b : ℕ) → 0 < a + b → (0 < a) ⊎ (0 < b)
 positive_part zero b h = inr (omega (arith, h))
 positive_part (suc a) b h = inl (omega arith)
 
-last_or : (n i : ℕ) → i < suc n → (i < n) ⊎ (i ≡ n)
-last_or n i h = grind arith
-
 -- a positive sum has a positive term
 some_of : (n : ℕ) (f : ℕ → ℕ) → 0 < total n f → SomeBelow n f
 unfolding total
@@ -37,7 +35,7 @@ unfolding total
 term_of zero f i h p = absurd (omega (arith, h))
 term_of (suc n) f i h p =
     ⊎_elim (λ before. let le = term_of n f i before p in omega (arith, le)) (λ e. let same : f i ≡ f n = ap f e in omega (arith, same, p))
-    (last_or n i h)
+    (last_or i n h)
 
 -- ---- tuples
 
@@ -81,49 +79,46 @@ asked_is : (o : Option Access) (u : List ℕ) → 0 < counted (asked_of o) u →
 asked_is None u h = none_counts u h
 asked_is (Some a) u h = (a, refl, one_is (tuple_of a) u h)
 
--- a row's access is asked somewhere
-row_asked : (asks : ℕ → Option Access) (m : ℕ) (rows : List (List ℕ)) → GivesAsks asks m rows → (q : ℕ) → q < length rows
-    → (i : ℕ) × (i < m) × (asks i ≡ Some (access_at rows q))
-row_asked asks m rows gives q h =
-    let u : List ℕ = tuple_of (access_at rows q) in
-    let positive : 0 < rows_give rows u = term_of (length rows) (λ r. counted (access_given (access_at rows r) ∷ []) u) q h (one_counts u) in
-    let e = gives u in
-    let g = given_is rows u in
-    let some : SomeBelow m (λ i. counted (asked_of (asks i)) u) =
-    some_of m (λ i. counted (asked_of (asks i)) u) (omega (arith, e, g, positive)) in
-    let found = asked_is (asks some.at) u some.positive in
-    (some.at, some.below, found.1 ∙ ap (λ a. Some a) (same_access found.0 (access_at rows q) found.2))
+module _ (asks : ℕ → Option Access) (m : ℕ) (rows : List (List ℕ)) (gives : GivesAsks asks m rows) where
+  -- a row's access is asked somewhere
+  row_asked : (q : ℕ) → q < length rows → (i : ℕ) × (i < m) × (asks i ≡ Some (access_at rows q))
+  row_asked q h =
+      let u : List ℕ = tuple_of (access_at rows q) in
+      let positive : 0 < rows_give rows u = term_of (length rows) (λ r. counted (access_given (access_at rows r) ∷ []) u) q h (one_counts u) in
+      let e = gives u in
+      let g = given_is rows u in
+      let some = some_of m (λ i. counted (asked_of (asks i)) u) (omega (arith, e, g, positive)) in
+      let found = asked_is (asks some.at) u some.positive in
+      (some.at, some.below, found.1 ∙ ap (λ a. Some a) (same_access found.0 (access_at rows q) found.2))
 
-ask_given : (asks : ℕ → Option Access) (m : ℕ) (rows : List (List ℕ)) → GivesAsks asks m rows → (i : ℕ) (a : Access) → i < m
-    → asks i ≡ Some a → HasRow rows a
-ask_given asks m rows gives i a h is =
-    let u : List ℕ = tuple_of a in
-    let here : 0 < counted (asked_of (asks i)) u = subst (λ o. 0 < counted (asked_of o) u) (sym is) (one_counts u) in
-    let positive : 0 < total m (λ j. counted (asked_of (asks j)) u) = term_of m (λ j. counted (asked_of (asks j)) u) i h here in
-    let e = gives u in
-    let g = given_is rows u in
-    let some : SomeBelow (length rows) (λ q. counted (access_given (access_at rows q) ∷ []) u) =
-    some_of (length rows) (λ q. counted (access_given (access_at rows q) ∷ []) u) (omega (arith, e, g, positive)) in
-    record {
-      at = some.at;
-      within = some.below;
-      shows = same_access (access_at rows some.at) a (one_is (tuple_of (access_at rows some.at)) u some.positive);
+  ask_given : (i : ℕ) (a : Access) → i < m → asks i ≡ Some a → HasRow rows a
+  ask_given i a h is =
+      let u : List ℕ = tuple_of a in
+      let here : 0 < counted (asked_of (asks i)) u = subst (λ o. 0 < counted (asked_of o) u) (sym is) (one_counts u) in
+      let positive = term_of m (λ j. counted (asked_of (asks j)) u) i h here in
+      let e = gives u in
+      let g = given_is rows u in
+      let some = some_of (length rows) (λ q. counted (access_given (access_at rows q) ∷ []) u) (omega (arith, e, g, positive)) in
+      record {
+        at = some.at;
+        within = some.below;
+        shows = same_access (access_at rows some.at) a (one_is (tuple_of (access_at rows some.at)) u some.positive);
+      }
+
+  module _ (are : AreAsks asks m) where
+    -- at its clock
+    clock_asked : (q : ℕ) → q < length rows → ((access_at rows q).clk < m) × (asks (access_at rows q).clk ≡ Some (access_at rows q))
+    clock_asked q h =
+        let r = row_asked q h in
+        let c = are.clocks r.0 (access_at rows q) r.1 r.2 in
+        let l = r.1 in
+        (omega (arith, c, l), subst (λ k. asks k ≡ Some (access_at rows q)) (sym c) r.2)
+
+    pub are_asked : AreAsked asks m rows
+    are_asked = record { within = λ q h. (clock_asked q h).0; given = λ q h. (clock_asked q h).1; asked = ask_given }
+
+    pub rows_small : AreSmall rows
+    rows_small = record {
+      contexts = λ q h. (let r = clock_asked q h in are.contexts (access_at rows q).clk (access_at rows q) r.0 r.1);
+      clocks = λ q h. (let w = (clock_asked q h).0 in let f = are.few in omega (arith, w, f));
     }
-
-pub are_asked : (asks : ℕ → Option Access) (m : ℕ) (rows : List (List ℕ)) → AreAsks asks m → GivesAsks asks m rows → AreAsked asks m rows
-are_asked asks m rows are gives = record {
-  within =
-      λ q h. (let r = row_asked asks m rows gives q h in let c = are.clocks r.0 (access_at rows q) r.1 r.2 in let l = r.1 in omega
-      (arith, c, l));
-  given = λ q h.
-      (let r = row_asked asks m rows gives q h in
-      subst (λ k. asks k ≡ Some (access_at rows q)) (sym (are.clocks r.0 (access_at rows q) r.1 r.2)) r.2);
-  asked = λ i a h is. ask_given asks m rows gives i a h is;
-}
-
-pub rows_small : (asks : ℕ → Option Access) (m : ℕ) (rows : List (List ℕ)) → AreAsks asks m → GivesAsks asks m rows → AreSmall rows
-rows_small asks m rows are gives = record {
-  contexts = λ q h. (let r = row_asked asks m rows gives q h in are.contexts r.0 (access_at rows q) r.1 r.2);
-  clocks = λ q h.
-      (let w = (are_asked asks m rows are gives).within q h in let f = are.few in omega (arith, w, f));
-}

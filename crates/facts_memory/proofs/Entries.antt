@@ -1,19 +1,15 @@
 -- Numbers at which the entries are 0.
-use Rattle.facts_memory.proofs.Words.{◌≡◌, ℕ, zero, suc, ◌-◌, ◌/◌, ◌%◌, ◌<◌, ◌≤◌, refl, ap, ap₂, ◌∙◌, arith, prime, felt_add, felt_sub, felt_mul}
+use Rattle.facts_memory.proofs.Words.{◌≡◌, ℕ, zero, suc, ◌-◌, ◌/◌, ◌%◌, ◌<◌, ◌≤◌, refl, arith, prime, felt_add, felt_sub, felt_mul}
 use Rattle.vm_field.proofs.Algebra.{felt_mul-zero_first, felt_mul-zero_second, felt_sub-same}
-use Rattle.air_kit.specs.HasherValues.{bit_value}
+use Rattle.facts_memory.proofs.Words.{Access, lit<, subst, sym}
 use Rattle.facts_memory.proofs.Numbers.{by_flags, limit, over}
+use Rattle.facts_memory.proofs.RowOrder.{Steps, by_address, by_clock, by_context}
 
 pub kind_zero : (k : ℕ) → k ≤ 2 → felt_mul (felt_mul k (felt_sub k 1)) (felt_sub k 2) ≡ 0
 kind_zero zero h = refl
 kind_zero (suc zero) h = refl
 kind_zero (suc (suc zero)) h = refl
 kind_zero (suc (suc (suc k))) h = absurd (omega (arith, h))
-
-pub bit_zero : (n : ℕ) → n < 2 → bit_value n ≡ 0
-bit_zero zero h = refl
-bit_zero (suc zero) h = refl
-bit_zero (suc (suc n)) h = absurd (omega (arith, h))
 
 -- a number of 32 bits as its limbs
 pub address_zero : (d : ℕ) → d < limit → felt_sub (felt_sub d (d % 65536)) (felt_mul 65536 (d / 65536)) ≡ 0
@@ -42,25 +38,19 @@ second_none x y z e = omega arith
 third_none : (x y z : ℕ) → z ≡ 0 → by_flags 0 0 x y z ≡ 0
 third_none x y z e = omega arith
 
--- The order of one access and the next, with the flags and the step of the latter.
-pub data Steps (n0 n1 step c a k c' a' k' : ℕ) : Type 0 where
-  by_context : n0 ≡ 1 → n1 ≡ 0 → c < c' → step ≡ c' - c - 1 → Steps n0 n1 step c a k c' a' k'
-  by_address : n0 ≡ 0 → n1 ≡ 1 → c ≡ c' → a < a' → step ≡ a' - a - 1 → Steps n0 n1 step c a k c' a' k'
-  by_clock : n0 ≡ 0 → n1 ≡ 0 → c ≡ c' → a ≡ a' → k < k' → step ≡ k' - k - 1 → Steps n0 n1 step c a k c' a' k'
+pub record Limited (a : Access) : Type 0 where
+  pub ctx_small : a.ctx < limit
+  pub addr_small : a.addr < limit
+  pub clk_small : a.clk < limit
 
-pub record Limited (c a k : ℕ) : Type 0 where
-  pub c_small : c < limit
-  pub a_small : a < limit
-  pub k_small : k < limit
-
-pub record OrderZero (n0 n1 step c a k c' a' k' : ℕ) : Type 0 where
-  pub first_bit : n0 < 2
-  pub second_bit : n1 < 2
-  pub one_new : felt_mul n0 n1 ≡ 0
+pub record OrderZero (n m step : ℕ) (b a : Access) : Type 0 where
+  pub first_bit : n < 2
+  pub second_bit : m < 2
+  pub one_new : felt_mul n m ≡ 0
   pub step_small : step < limit
-  pub contexts : felt_mul (felt_sub 1 n0) (felt_sub c' c) ≡ 0
-  pub addresses : felt_mul (felt_mul (felt_sub 1 n0) (felt_sub 1 n1)) (felt_sub a' a) ≡ 0
-  pub grows : by_flags n0 n1 (over c c' step) (over a a' step) (over k k' step) ≡ 0
+  pub contexts : felt_mul (felt_sub 1 n) (felt_sub a.ctx b.ctx) ≡ 0
+  pub addresses : felt_mul (felt_mul (felt_sub 1 n) (felt_sub 1 m)) (felt_sub a.addr b.addr) ≡ 0
+  pub grows : by_flags n m (over b.ctx a.ctx step) (over b.addr a.addr step) (over b.clk a.clk step) ≡ 0
 
 same_none : (x y : ℕ) → x < limit → y ≡ x → felt_sub x y ≡ 0
 same_none x y h e = omega arith
@@ -68,38 +58,36 @@ same_none x y h e = omega arith
 small_step : (from to step : ℕ) → to < limit → step ≡ to - from - 1 → step < limit
 small_step from to step h e = omega arith
 
-pub order_zero : (n0 n1 step c a k c' a' k' : ℕ) → Limited c' a' k' → Steps n0 n1 step c a k c' a' k'
-    → OrderZero n0 n1 step c a k c' a' k'
-order_zero n0 n1 step c a k c' a' k' s (by_context en em less is) = record {
-  first_bit = omega (arith, en);
-  second_bit = omega (arith, em);
-  one_new = ap₂ felt_mul en em;
-  step_small = small_step c c' step s.c_small is;
-  contexts = ap (λ n. felt_mul (felt_sub 1 n) (felt_sub c' c)) en ∙ felt_mul-zero_first 0 (felt_sub c' c) refl;
-  addresses = ap₂ (λ n m. felt_mul (felt_mul (felt_sub 1 n) (felt_sub 1 m)) (felt_sub a' a)) en em ∙ felt_mul-zero_first 0 (felt_sub a' a) refl;
-  grows = ap₂ (λ n m. by_flags n m (over c c' step) (over a a' step) (over k k' step)) en em
-      ∙ first_none (over c c' step) (over a a' step) (over k k' step) (over_none c c' step s.c_small less is);
-}
-order_zero n0 n1 step c a k c' a' k' s (by_address en em same less is) = record {
-  first_bit = omega (arith, en);
-  second_bit = omega (arith, em);
-  one_new = ap₂ felt_mul en em;
-  step_small = small_step a a' step s.a_small is;
-  contexts = felt_mul-zero_second (felt_sub 1 n0) (felt_sub c' c) (same_none c' c s.c_small same);
-  addresses = ap₂ (λ n m. felt_mul (felt_mul (felt_sub 1 n) (felt_sub 1 m)) (felt_sub a' a)) en em ∙ felt_mul-zero_first 0 (felt_sub a' a) refl;
-  grows = ap₂ (λ n m. by_flags n m (over c c' step) (over a a' step) (over k k' step)) en em
-      ∙ second_none (over c c' step) (over a a' step) (over k k' step) (over_none a a' step s.a_small less is);
-}
-order_zero n0 n1 step c a k c' a' k' s (by_clock en em same also less is) = record {
-  first_bit = omega (arith, en);
-  second_bit = omega (arith, em);
-  one_new = ap₂ felt_mul en em;
-  step_small = small_step k k' step s.k_small is;
-  contexts = felt_mul-zero_second (felt_sub 1 n0) (felt_sub c' c) (same_none c' c s.c_small same);
-  addresses = felt_mul-zero_second (felt_mul (felt_sub 1 n0) (felt_sub 1 n1)) (felt_sub a' a) (same_none a' a s.a_small also);
-  grows = ap₂ (λ n m. by_flags n m (over c c' step) (over a a' step) (over k k' step)) en em
-      ∙ third_none (over c c' step) (over a a' step) (over k k' step) (over_none k k' step s.k_small less is);
-}
+module _ (step : ℕ) (b a : Access) (s : Limited a) where
+  -- where the flags are these
+  zero_by : (n m : ℕ) → n < 2 → m < 2 → felt_mul n m ≡ 0 → step < limit → felt_mul (felt_sub 1 n) (felt_sub a.ctx b.ctx) ≡ 0
+      → felt_mul (felt_mul (felt_sub 1 n) (felt_sub 1 m)) (felt_sub a.addr b.addr) ≡ 0
+      → by_flags n m (over b.ctx a.ctx step) (over b.addr a.addr step) (over b.clk a.clk step) ≡ 0 → (i j : ℕ) → i ≡ n → j ≡ m
+      → OrderZero i j step b a
+  zero_by n m h0 h1 one few c d g i j ei ej =
+      subst (λ i. OrderZero i j step b a) (sym ei) (subst (λ j. OrderZero n j step b a) (sym ej) (record {
+        first_bit = h0;
+        second_bit = h1;
+        one_new = one;
+        step_small = few;
+        contexts = c;
+        addresses = d;
+        grows = g;
+      }))
+
+  pub order_zero : (n m : ℕ) → Steps n m step b a → OrderZero n m step b a
+  order_zero n m (by_context en em less is) =
+      zero_by 1 0 (lit< tt) (lit< tt) refl (small_step b.ctx a.ctx step s.ctx_small is) (felt_mul-zero_first 0 (felt_sub a.ctx b.ctx) refl)
+      (felt_mul-zero_first 0 (felt_sub a.addr b.addr) refl) (first_none _ _ _ (over_none b.ctx a.ctx step s.ctx_small less is)) n m en em
+  order_zero n m (by_address en em same less is) =
+      zero_by 0 1 (lit< tt) (lit< tt) refl (small_step b.addr a.addr step s.addr_small is)
+      (felt_mul-zero_second 1 (felt_sub a.ctx b.ctx) (same_none a.ctx b.ctx s.ctx_small same))
+      (felt_mul-zero_first 0 (felt_sub a.addr b.addr) refl) (second_none _ _ _ (over_none b.addr a.addr step s.addr_small less is)) n m en em
+  order_zero n m (by_clock en em same also less is) =
+      zero_by 0 0 (lit< tt) (lit< tt) refl (small_step b.clk a.clk step s.clk_small is)
+      (felt_mul-zero_second 1 (felt_sub a.ctx b.ctx) (same_none a.ctx b.ctx s.ctx_small same))
+      (felt_mul-zero_second 1 (felt_sub a.addr b.addr) (same_none a.addr b.addr s.addr_small also))
+      (third_none _ _ _ (over_none b.clk a.clk step s.clk_small less is)) n m en em
 
 -- ---- words
 

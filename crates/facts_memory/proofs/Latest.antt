@@ -1,10 +1,12 @@
 -- The word of the last access of a place before a clock, whether it was read or written there.
-use Rattle.facts_memory.proofs.Words.{◌≡◌, ◌≢◌, ℕ, zero, suc, ◌<◌, ◌≤◌, ◌==◌, ◌⊎◌, inl, inr, ⊎_elim, true, false, cond, List, Option, Some, None, refl, sym}
-use Rattle.facts_memory.proofs.Words.{ap, ap₂, ◌∙◌, arith, unwrap_or, and_parts, cases_Bool, eqb-true, WordMap, place_cmp, word_at, zero_word, Access, Keeps}
+use Rattle.facts_memory.proofs.Words.{◌≡◌, ◌≢◌, ℕ, zero, suc, ◌<◌, ◌≤◌, ◌==◌, inl, inr, ⊎_elim, true, false, cond, List, Option, Some, None, refl, sym}
+use Rattle.facts_memory.proofs.Words.{ap, ap₂, ◌∙◌, arith, unwrap_or, cases_Bool, eqb-true, WordMap, place_cmp, word_at, zero_word, Access, Keeps}
 use Rattle.facts_memory.proofs.Words.{is_at, memory_before, memory_behind}
 use Rattle.std.specs.FinMap.{get-empty, insert}
 use Rattle.vm_field.proofs.Places.{word_at-insert_same, word_at-insert_other}
-use Rattle.facts_memory.proofs.RowOrder.{at_same}
+use Rattle.facts_memory.proofs.Words.{Bool}
+use Rattle.facts_memory.proofs.Numbers.{last_or}
+use Rattle.facts_memory.proofs.RowOrder.{at_same, place_is}
 
 abbrev pub latest_of : Option Access → ℕ → ℕ → List ℕ → List ℕ
 latest_of None c d word = word
@@ -32,9 +34,6 @@ latest-none asks (suc i) c d none =
     not_there (asks i) c d (latest asks i c d) (λ b is at. none i b (omega arith) (omega arith) is at)
     ∙ latest-none asks i c d (λ k b low high. none k b low (omega (arith, high)))
 
-last_or : (j i : ℕ) → j < suc i → (j < i) ⊎ (j ≡ i)
-last_or j i h = grind arith
-
 there : (o : Option Access) (a : Access) (c d : ℕ) (word : List ℕ) → o ≡ Some a → is_at a c d ≡ true → latest_of o c d word ≡ a.word
 there o a c d word is at = ap (λ p. latest_of p c d word) is ∙ ap (λ t. cond t a.word word) at
 
@@ -51,11 +50,6 @@ latest-at asks (suc i) j c d a h is at none =
 
 -- ---- memory
 
-pub place_is : (a : Access) (c d : ℕ) → is_at a c d ≡ true → (a.ctx ≡ c) × (a.addr ≡ d)
-place_is a c d at =
-    let both : ((a.ctx == c) ≡ true) × ((a.addr == d) ≡ true) = and_parts (a.ctx == c) (a.addr == d) at in
-    (eqb-true a.ctx c both.0, eqb-true a.addr d both.1)
-
 other_place : (a : Access) (c d : ℕ) → is_at a c d ≡ false → ◌≢◌ {A = ℕ × ℕ} (c, d) (a.ctx, a.addr)
 other_place a c d not same =
     let yes : is_at a c d ≡ true = at_same a c d (sym (ap (λ (p : ℕ × ℕ). p.0) same)) (sym (ap (λ (p : ℕ × ℕ). p.1) same)) in
@@ -64,25 +58,16 @@ other_place a c d not same =
 -- memory behind an access, where memory and the words before it are alike
 behind_one : (a : Access) (memory : WordMap) (w : ℕ → ℕ → List ℕ) → ((c d : ℕ) → word_at memory c d ≡ w c d)
     → (a.kind ≡ 0 → a.word ≡ w a.ctx a.addr) → (c d : ℕ) → word_at (memory_behind (Some a) memory) c d ≡ latest_of (Some a) c d (w c d)
-behind_one a memory w alike reads c d = go (cases_Bool (a.kind == 0)) (cases_Bool (is_at a c d))
+behind_one a memory w alike reads c d = by (a.kind == 0) (is_at a c d) refl refl
   where
-    go : ((a.kind == 0) ≡ true) ⊎ ((a.kind == 0) ≡ false) → (is_at a c d ≡ true) ⊎ (is_at a c d ≡ false)
-        → word_at (memory_behind (Some a) memory) c d ≡ latest_of (Some a) c d (w c d)
-    go (inl read) (inl at) =
-        ap (λ t. word_at (cond t memory (insert memory (a.ctx, a.addr) a.word)) c d) read ∙ alike c d
-        ∙ sym (reads (eqb-true a.kind 0 read) ∙ ap₂ w (place_is a c d at).0 (place_is a c d at).1)
-        ∙ sym (ap (λ t. cond t a.word (w c d)) at)
-    go (inl read) (inr other) =
-        ap (λ t. word_at (cond t memory (insert memory (a.ctx, a.addr) a.word)) c d) read ∙ alike c d
-        ∙ sym (ap (λ t. cond t a.word (w c d)) other)
-    go (inr write) (inl at) =
-        ap (λ t. word_at (cond t memory (insert memory (a.ctx, a.addr) a.word)) c d) write
-        ∙ ap₂ (λ p q. word_at (insert memory (a.ctx, a.addr) a.word) p q) (sym (place_is a c d at).0) (sym (place_is a c d at).1)
-        ∙ word_at-insert_same memory a.ctx a.addr a.word ∙ sym (ap (λ t. cond t a.word (w c d)) at)
-    go (inr write) (inr other) =
-        ap (λ t. word_at (cond t memory (insert memory (a.ctx, a.addr) a.word)) c d) write
-        ∙ word_at-insert_other memory (a.ctx, a.addr) a.word c d (other_place a c d other) ∙ alike c d
-        ∙ sym (ap (λ t. cond t a.word (w c d)) other)
+    by : (s t : Bool) → (a.kind == 0) ≡ s → is_at a c d ≡ t
+        → word_at (cond s memory (insert memory (a.ctx, a.addr) a.word)) c d ≡ cond t a.word (w c d)
+    by true true read at = alike c d ∙ sym (reads (eqb-true a.kind 0 read) ∙ ap₂ w (place_is a c d at).0 (place_is a c d at).1)
+    by true false read other = alike c d
+    by false true write at =
+        ap₂ (λ p q. word_at (insert memory (a.ctx, a.addr) a.word) p q) (sym (place_is a c d at).0) (sym (place_is a c d at).1)
+        ∙ word_at-insert_same memory a.ctx a.addr a.word
+    by false false write other = word_at-insert_other memory (a.ctx, a.addr) a.word c d (other_place a c d other) ∙ alike c d
 
 -- each access shows the latest word of its place
 abbrev pub KeepLatest : (ℕ → Option Access) → ℕ → Type 0

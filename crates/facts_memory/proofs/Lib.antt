@@ -1,3 +1,4 @@
+pub mod Cells
 pub mod Numbers
 pub mod RowZeros
 pub mod RowOrder
@@ -18,7 +19,5 @@ pub mod Clocks
 pub mod SortedKeys
 pub mod SortedWords
 pub mod SortedFit
-pub mod RowsShow
-pub mod RowsAre
 pub mod RowsBack
 pub mod MainServes

@@ -1,7 +1,7 @@
 -- A table of memory serves the rows of a main table that ask what it gives.
 use Rattle.facts_memory.proofs.Words.{◌≡◌, ℕ, zero, suc, ◌+◌, ◌<◌, ◌^◌, List, [], length, slice_get, Option, Some, None, refl, sym, ap, ap₂, subst, ◌∙◌}
 use Rattle.facts_memory.proofs.Words.{arith, slice_get-get_or, slice_get_within, WordMap, word_at, Access, Keeps, row_at, HaveLimbs, MemoryIsZero, access_at}
-use Rattle.facts_memory.proofs.Words.{AreAsks, ArePaired, AreServed, GivesAsks, asked_of, memory_before, memory_behind}
+use Rattle.facts_memory.proofs.Words.{AreAsks, ArePaired, GivesAsks, asked_of, memory_before, memory_behind}
 use Rattle.buses.specs.Counts.{counted, over_first, total, with_next}
 use Rattle.vm_ops.specs.declared.op.Op.{Op}
 use Rattle.vm_ops.specs.declared.op.Op.TheVariants as ops
@@ -14,26 +14,17 @@ use Rattle.facts_memory.proofs.TableServes.{pairs, serves}
 
 -- ---- by the operation
 
--- where a row accesses
-pub record AccessIs (x : List ℕ) (o : Option Access) : Type 0 where
-  pub clock : (a : Access) → o ≡ Some a → a.clk ≡ clk x
-  pub context : (a : Access) → o ≡ Some a → a.ctx ≡ ctx x
-
-access_is : (x : List ℕ) (b : Access) → b.clk ≡ clk x → b.ctx ≡ ctx x → AccessIs x (Some b)
-access_is x b k c = record {
-  clock = λ a e. (let same : b ≡ a = cc in subst (λ (z : Access). z.clk ≡ clk x) same k);
-  context = λ a e. (let same : b ≡ a = cc in subst (λ (z : Access). z.ctx ≡ ctx x) same c);
-}
-
-no_access : (x : List ℕ) → AccessIs x None
-no_access x = record { clock = λ a e. absurd (let clash : ⊥ = cc in clash); context = λ a e. absurd (let clash : ⊥ = cc in clash) }
+-- a row accesses at its clock and in its context, if it does
+abbrev AccessIs : List ℕ → Option Access → Type 0
+AccessIs x None = Unit {0}
+AccessIs x (Some a) = (a.clk ≡ clk x) × (a.ctx ≡ ctx x)
 
 by_operation : (op : Op) (x y : List ℕ) → AccessIs x (access_by op x y)
-by_operation ops.MLoad x y = access_is x _ refl refl
-by_operation ops.MLoadW x y = access_is x _ refl refl
-by_operation ops.MStore x y = access_is x _ refl refl
-by_operation ops.MStoreW x y = access_is x _ refl refl
-by_operation op x y = no_access x
+by_operation ops.MLoad x y = (refl, refl)
+by_operation ops.MLoadW x y = (refl, refl)
+by_operation ops.MStore x y = (refl, refl)
+by_operation ops.MStoreW x y = (refl, refl)
+by_operation op x y = tt
 
 tuples_are : (op : Op) (x y : List ℕ) → accesses_of op x y ≡ asked_of (access_by op x y)
 unfolding accesses_of
@@ -59,18 +50,17 @@ with_row x (Some y) = access_by (op_of x) x y
 asks_of : List (List ℕ) → ℕ → Option Access
 asks_of main i = with_row (row_at main i) (slice_get main (suc i))
 
-row_is : (x : List ℕ) (next : Option (List ℕ)) → AccessIs x (with_row x next)
+row_is : (x : List ℕ) (next : Option (List ℕ)) (a : Access) → with_row x next ≡ Some a → (a.clk ≡ clk x) × (a.ctx ≡ ctx x)
 unfolding with_row
-row_is x None = no_access x
-row_is x (Some y) = by_operation (op_of x) x y
+row_is x None a e = absurd (let clash : ⊥ = cc in clash)
+row_is x (Some y) a e = subst (AccessIs x) e (by_operation (op_of x) x y)
 
 are_asks : (main : List (List ℕ)) → IsClocked main → AreAsks (asks_of main) (length main)
 unfolding asks_of
 are_asks main c = record {
   few = c.few;
-  clocks = λ i a h is. (row_is (row_at main i) (slice_get main (suc i))).clock a is ∙ c.clocks i h;
-  contexts = λ i a h is.
-      subst (λ k. k < 2 ^ 32) (sym ((row_is (row_at main i) (slice_get main (suc i))).context a is)) (c.contexts i h);
+  clocks = λ i a h is. (row_is (row_at main i) (slice_get main (suc i)) a is).0 ∙ c.clocks i h;
+  contexts = λ i a h is. subst (λ k. k < 2 ^ 32) (sym (row_is (row_at main i) (slice_get main (suc i)) a is).1) (c.contexts i h);
 }
 
 total_same : (n : ℕ) (f g : ℕ → ℕ) → ((i : ℕ) → f i ≡ g i) → total n f ≡ total n g
@@ -101,18 +91,6 @@ memory_same main (suc i) h =
     memory_is (op_of (row_at main i)) (row_at main i) (row_at main (suc i)) (memory_at main i)
     ∙ ap₂ memory_behind (sym (row_asks main i (row_at main (suc i)) next)) (memory_same main i (omega (arith, h)))
 
-pub main_serves : (main rows : List (List ℕ)) → IsClocked main → MemoryIsZero rows → HaveLimbs rows → GivesMain main rows → ServesMain main
-main_serves main rows c z limbs alike i y a next is =
-    let after : suc i < length main = slice_get_within main (suc i) y next in
-    let inside : i < length main = omega (arith, after) in
-    let served : AreServed (asks_of main) (length main) =
-    serves (asks_of main) (length main) rows (are_asks main c) z limbs (gives main rows alike) in
-    let ask : asks_of main i ≡ Some a = row_asks main i y next ∙ is in
-    record {
-      address = served.addresses i a inside ask;
-      keeps = subst (λ m. Keeps a (word_at m a.ctx a.addr)) (sym (memory_same main i inside)) (served.keeps i a inside ask);
-    }
-
 -- the access that a row makes, with the row behind it
 row_makes : (x : List ℕ) (next : Option (List ℕ)) (a : Access) → with_row x next ≡ Some a
     → (y : List ℕ) × (next ≡ Some y) × (access_by (op_of x) x y ≡ Some a)
@@ -126,14 +104,25 @@ main_row main a is =
     let made = row_makes (row_at main a.clk) (slice_get main (suc a.clk)) a is in
     record { behind = made.0; next = made.1; accesses = made.2 }
 
-pub pairs_main : (main rows : List (List ℕ)) → IsClocked main → MemoryIsZero rows → HaveLimbs rows → GivesMain main rows → PairsMain main rows
-pairs_main main rows c z limbs alike = record {
-  shown = λ i y a next is.
-      (let after : suc i < length main = slice_get_within main (suc i) y next in
-      p.asked.asked i a (omega (arith, after)) (row_asks main i y next ∙ is));
-  accessed = λ q h. main_row main (access_at rows q) (p.asked.given q h);
-  once = p.once;
-}
-  where
-    p : ArePaired (asks_of main) (length main) rows
-    p = pairs (asks_of main) (length main) rows (are_asks main c) z limbs (gives main rows alike)
+module _ (main rows : List (List ℕ)) (c : IsClocked main) (z : MemoryIsZero rows) (limbs : HaveLimbs rows) (alike : GivesMain main rows) where
+  pub main_serves : ServesMain main
+  main_serves i y a next is =
+      let after = slice_get_within main (suc i) y next in
+      let inside : i < length main = omega (arith, after) in
+      let served = serves (asks_of main) (length main) rows (are_asks main c) z limbs (gives main rows alike) in
+      let ask = row_asks main i y next ∙ is in
+      record {
+        address = served.addresses i a inside ask;
+        keeps = subst (λ m. Keeps a (word_at m a.ctx a.addr)) (sym (memory_same main i inside)) (served.keeps i a inside ask);
+      }
+
+  pub pairs_main : PairsMain main rows
+  pairs_main = record {
+    shown = λ i y a next is.
+        (let after = slice_get_within main (suc i) y next in p.asked.asked i a (omega (arith, after)) (row_asks main i y next ∙ is));
+    accessed = λ q h. main_row main (access_at rows q) (p.asked.given q h);
+    once = p.once;
+  }
+    where
+      p : ArePaired (asks_of main) (length main) rows
+      p = pairs (asks_of main) (length main) rows (are_asks main c) z limbs (gives main rows alike)

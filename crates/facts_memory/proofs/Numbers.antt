@@ -1,10 +1,15 @@
 -- What the entries say of small numbers.
-use Rattle.facts_memory.proofs.Words.{◌≡◌, ℕ, zero, suc, ◌+◌, ◌*◌, ◌<◌, ◌≤◌, ⊎_elim, refl, arith, lit<, prime, felt_add, felt_sub, felt_mul}
+use Rattle.facts_memory.proofs.Words.{◌≡◌, ℕ, suc, ◌+◌, ◌*◌, ◌-◌, ◌<◌, ◌≤◌, ⊎_elim, ◌⊎◌, arith, lit<, prime, felt_add, felt_sub, felt_mul}
+use Rattle.facts_memory.proofs.Words.{ap, sym, ◌%◌, ◌∙◌}
 use Rattle.vm_field.proofs.Algebra.{same_from_sub, zero_factor}
 
 -- 2^32
 abbrev pub limit : ℕ
 limit = 4294967296
+
+-- below a number's successor
+pub last_or : (j i : ℕ) → j < suc i → (j < i) ⊎ (j ≡ i)
+last_or j i h = grind arith
 
 pub kind_from : (k : ℕ) → k < prime → felt_mul (felt_mul k (felt_sub k 1)) (felt_sub k 2) ≡ 0 → k ≤ 2
 kind_from k below e =
@@ -19,26 +24,7 @@ address_from a low high below l h e = omega arith
 pub step_from : (low high : ℕ) → low < 65536 → high < 65536 → felt_add low (felt_mul 65536 high) < limit
 step_from low high l h = omega arith
 
-pub grown_from : (from to step : ℕ) → from < limit → to < prime → step < limit → felt_sub (felt_sub (felt_sub to from) 1) step ≡ 0
-    → from < to
-grown_from from to step f t s e = omega arith
-
 -- ---- the three ways in which the order grows
-
--- what a row says behind another one, by its flags
-pub data Moves (n0 n1 c a k c' a' k' : ℕ) : Type 0 where
-  by_context : n0 ≡ 1 → n1 ≡ 0 → c < c' → Moves n0 n1 c a k c' a' k'
-  by_address : n0 ≡ 0 → n1 ≡ 1 → c' ≡ c → a < a' → Moves n0 n1 c a k c' a' k'
-  by_clock : n0 ≡ 0 → n1 ≡ 0 → c' ≡ c → a' ≡ a → k < k' → Moves n0 n1 c a k c' a' k'
-
-pub record Small (c a k c' a' k' step : ℕ) : Type 0 where
-  pub c_small : c < limit
-  pub a_small : a < limit
-  pub k_small : k < limit
-  pub c_next : c' < prime
-  pub a_next : a' < prime
-  pub k_next : k' < prime
-  pub step_small : step < limit
 
 -- how much a number grows beyond the step, and the sum of the three by their flags
 abbrev pub over : ℕ → ℕ → ℕ → ℕ
@@ -59,35 +45,17 @@ third_alone x y z h e = omega arith
 alone : (x : ℕ) → x < prime → felt_mul 1 x ≡ 0 → x ≡ 0
 alone x h e = omega arith
 
+pub grown : (from to step : ℕ) → from < limit → to < prime → step < limit → over from to step ≡ 0 → (from < to) × (step ≡ to - from - 1)
+grown from to step f t s e = (omega arith, omega arith)
+
 pub over_below : (from to step : ℕ) → over from to step < prime
 over_below from to step = omega arith
 
 less_below : (x y : ℕ) → felt_sub x y < prime
 less_below x y = omega arith
 
-same_where : (x y : ℕ) → x < prime → y < limit → felt_mul 1 (felt_sub x y) ≡ 0 → x ≡ y
+pub same_where : (x y : ℕ) → x < prime → y < limit → felt_mul 1 (felt_sub x y) ≡ 0 → x ≡ y
 same_where x y hx hy e = same_from_sub x y hx (omega arith) (alone (felt_sub x y) (less_below x y) e)
-
-pub moves : (n0 n1 c a k c' a' k' step : ℕ) → n0 < 2 → n1 < 2 → felt_mul n0 n1 ≡ 0 → Small c a k c' a' k' step
-    → felt_mul (felt_sub 1 n0) (felt_sub c' c) ≡ 0
-    → felt_mul (felt_mul (felt_sub 1 n0) (felt_sub 1 n1)) (felt_sub a' a) ≡ 0
-    → by_flags n0 n1 (over c c' step) (over a a' step) (over k k' step) ≡ 0 → Moves n0 n1 c a k c' a' k'
-moves zero zero c a k c' a' k' step h0 h1 one s ce ae oe =
-    by_clock refl refl (same_where c' c s.c_next s.c_small ce) (same_where a' a s.a_next s.a_small ae)
-    (grown_from k k' step s.k_small s.k_next s.step_small
-    (third_alone (over c c' step) (over a a' step) (over k k' step) (over_below k k' step) oe))
-moves zero (suc zero) c a k c' a' k' step h0 h1 one s ce ae oe =
-    by_address refl refl (same_where c' c s.c_next s.c_small ce)
-    (grown_from a a' step s.a_small s.a_next s.step_small
-    (second_alone (over c c' step) (over a a' step) (over k k' step) (over_below a a' step) oe))
-moves zero (suc (suc n1)) c a k c' a' k' step h0 h1 one s ce ae oe = absurd (omega (arith, h1))
-moves (suc zero) zero c a k c' a' k' step h0 h1 one s ce ae oe =
-    by_context refl refl
-    (grown_from c c' step s.c_small s.c_next s.step_small
-    (first_alone (over c c' step) (over a a' step) (over k k' step) (over_below c c' step) oe))
-moves (suc zero) (suc zero) c a k c' a' k' step h0 h1 one s ce ae oe = absurd (omega (arith, one))
-moves (suc zero) (suc (suc n1)) c a k c' a' k' step h0 h1 one s ce ae oe = absurd (omega (arith, h1))
-moves (suc (suc n0)) n1 c a k c' a' k' step h0 h1 one s ce ae oe = absurd (omega (arith, h0))
 
 -- ---- words
 
@@ -95,12 +63,9 @@ moves (suc (suc n0)) n1 c a k c' a' k' step h0 h1 one s ce ae oe = absurd (omega
 pub read_from : (k x y : ℕ) → k ≡ 0 → x < prime → y < prime
     → felt_mul (felt_mul (felt_sub k 1) (felt_sub k 2)) (felt_sub x y) ≡ 0 → x ≡ y
 read_from k x y is hx hy e =
-    same_from_sub x y hx hy
-    (⊎_elim
-    (λ z. absurd (⊎_elim (λ (a : felt_sub k 1 ≡ 0). let clash : ⊥ = omega (arith, a, is) in clash)
-    (λ (b : felt_sub k 2 ≡ 0). let clash : ⊥ = omega (arith, b, is) in clash)
-    (zero_factor (felt_sub k 1) (felt_sub k 2) (less_below k 1) (less_below k 2) z)))
-    (λ z. z) (zero_factor (felt_mul (felt_sub k 1) (felt_sub k 2)) (felt_sub x y) (omega arith) (less_below x y) e))
+    let twice : (2 * felt_sub x y) % prime ≡ 0
+    = ap (λ k. felt_mul (felt_mul (felt_sub k 1) (felt_sub k 2)) (felt_sub x y)) (sym is) ∙ e in
+    let few = less_below x y in same_from_sub x y hx hy (omega (arith, twice, few))
 
 -- and where it is not written whole, another one is
 pub kept_from : (k x y : ℕ) → k < prime → (k ≡ 1 → ⊥) → x < prime → y < prime → felt_mul (felt_sub k 1) (felt_sub x y) ≡ 0 → x ≡ y

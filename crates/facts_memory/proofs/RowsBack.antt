@@ -1,13 +1,14 @@
 -- The rows of accesses in order have entries 0.
-use Rattle.facts_memory.proofs.Words.{◌≡◌, ℕ, zero, suc, ◌<◌, ◌≤◌, ◌⊎◌, inl, inr, List, [], length, slice_get, Option, Some, None, option_map, refl, sym, ap}
+use Rattle.facts_memory.proofs.Words.{◌≡◌, ℕ, zero, suc, ◌<◌, inl, inr, List, [], length, slice_get, Option, Some, None, option_map, refl, sym, ap}
 use Rattle.facts_memory.proofs.Words.{subst, ◌∙◌, arith, cases_lt, slice_get-get_or, slice_get_past, word-of, IsTable, row_at, family, access_values, entry_1}
 use Rattle.facts_memory.proofs.Words.{entry_5, goes_on_here, memory_values, order_step, step_of, word_values, spot_of, Access, row_behind, AreOrdered}
 use Rattle.facts_memory.proofs.Words.{AreSmall, MemoryIsZero, access_at, access_before}
 use Rattle.chip_columns.specs.MemoryColumns.{d0, d1}
 use Rattle.facts_memory.specs.TableRows.{AreAccessRows, first_row}
 use Rattle.facts_memory.proofs.BehindZero.{NextFits, row_zero}
-use Rattle.facts_memory.proofs.Fitting.{FitsBehind, Follows, IsShown}
-use Rattle.facts_memory.proofs.RowZeros.{AllZero}
+use Rattle.facts_memory.proofs.Cells.{AllZero}
+use Rattle.facts_memory.proofs.Fitting.{FitsBehind, IsShown}
+use Rattle.facts_memory.proofs.RowOrder.{Follows}
 use Rattle.facts_memory.proofs.RowsZero.{zero_number}
 use Rattle.facts_memory.proofs.SortedKeys.{follows_from}
 
@@ -22,7 +23,7 @@ module _ (rows : List (List ℕ)) (table : IsTable 14 rows) (small : AreSmall ro
   shown : (i : ℕ) → i < length rows → IsShown (access_at rows i)
   shown i h = record {
     kind = o.kinds i h;
-    limits = record { c_small = small.contexts i h; a_small = o.addresses i h; k_small = small.clocks i h };
+    limits = record { ctx_small = small.contexts i h; addr_small = o.addresses i h; clk_small = small.clocks i h };
     word = word-of _ _ _ _ (table.below i 4) (table.below i 5) (table.below i 6) (table.below i 7);
   }
 
@@ -38,34 +39,26 @@ module _ (rows : List (List ℕ)) (table : IsTable 14 rows) (small : AreSmall ro
   -- the row behind, if there is one
   next_of : (i : ℕ) → (n : Option Access)
       × (slice_get rows (suc i) ≡ option_map (λ b. row_behind (Some (access_at rows i)) b) n) × NextFits (access_at rows i) n
-  next_of i = go (cases_lt (suc i) (length rows))
-    where
-      go : (suc i < length rows) ⊎ (length rows ≤ suc i) → (n : Option Access)
-          × (slice_get rows (suc i) ≡ option_map (λ b. row_behind (Some (access_at rows i)) b) n) × NextFits (access_at rows i) n
-      go (inl h) = (Some (access_at rows (suc i)), slice_get-get_or rows (suc i) [] h ∙ ap Some (are.later i h), fits (suc i) h)
-      go (inr past) = (None, slice_get_past rows (suc i) past, tt)
+  next_of i = elim (cases_lt (suc i) (length rows)) [
+    | inl h ↦ (Some (access_at rows (suc i)), slice_get-get_or rows (suc i) [] h ∙ ap Some (are.later i h), fits (suc i) h)
+    | inr past ↦ (None, slice_get_past rows (suc i) past, tt)
+  ]
 
-  at_spot : (i : ℕ) (cur : List ℕ) → row_at rows i ≡ cur
-      → ((next : Option (List ℕ)) → slice_get rows (suc i) ≡ next → AllZero (memory_values (record { row = i; cur = cur; next = next })))
-      → AllZero (memory_values (spot_of rows i))
-  at_spot i cur is zeros =
-      subst (λ x. AllZero (memory_values (record { row = i; cur = x; next = slice_get rows (suc i) }))) (sym is) (zeros (slice_get rows (suc i)) refl)
+  behind_zeros : (i : ℕ) (before : Option Access) → FitsBehind before (access_at rows i) → (i ≡ 0 → before ≡ None)
+      → AllZero (memory_values (record { row = i; cur = row_behind before (access_at rows i); next = slice_get rows (suc i) }))
+  behind_zeros i before f first =
+      let n = next_of i in
+      subst (λ m. AllZero (memory_values (record { row = i; cur = row_behind before (access_at rows i); next = m }))) (sym n.1)
+      (row_zero i before (access_at rows i) n.0 f first n.2)
 
   spot_zeros : (i : ℕ) → i < length rows → AllZero (memory_values (spot_of rows i))
   spot_zeros zero h =
-      at_spot 0 (first_row (access_at rows 0) (d0 (row_at rows 0)) (d1 (row_at rows 0))) (are.first h)
-      (λ next is.
-      subst AllZero (sym (first_values (access_at rows 0) (d0 (row_at rows 0)) (d1 (row_at rows 0)) next))
-      (let n = next_of 0 in
-      subst (λ m. AllZero (memory_values (record { row = 0; cur = row_behind None (access_at rows 0); next = m }))) (sym n.1 ∙ is)
-      (row_zero 0 None (access_at rows 0) n.0 (fits 0 h) (λ e. refl) n.2)))
+      subst (λ x. AllZero (memory_values (record { row = 0; cur = x; next = slice_get rows 1 }))) (sym (are.first h))
+      (subst AllZero (sym (first_values (access_at rows 0) (d0 (row_at rows 0)) (d1 (row_at rows 0)) (slice_get rows 1)))
+      (behind_zeros 0 None (fits 0 h) (λ e. refl)))
   spot_zeros (suc i) h =
-      at_spot (suc i) (row_behind (Some (access_at rows i)) (access_at rows (suc i))) (are.later i h)
-      (λ next is.
-      (let n = next_of (suc i) in
-      subst (λ m. AllZero (memory_values (record { row = suc i; cur = row_behind (Some (access_at rows i)) (access_at rows (suc i)); next = m })))
-      (sym n.1 ∙ is)
-      (row_zero (suc i) (Some (access_at rows i)) (access_at rows (suc i)) n.0 (fits (suc i) h) (λ e. absurd (omega (arith, e))) n.2)))
+      subst (λ x. AllZero (memory_values (record { row = suc i; cur = x; next = slice_get rows (suc (suc i)) }))) (sym (are.later i h))
+      (behind_zeros (suc i) (Some (access_at rows i)) (fits (suc i) h) (λ e. absurd (omega (arith, e))))
 
 pub rows_are_zero : (rows : List (List ℕ)) → IsTable 14 rows → AreSmall rows → AreOrdered rows → AreAccessRows rows → MemoryIsZero rows
 rows_are_zero rows table small o are = record {

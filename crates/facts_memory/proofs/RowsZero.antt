@@ -1,13 +1,12 @@
 -- The rows of accesses of which each fits behind the one before: a table whose values are 0 and whose limbs have 16 bits.
-use Rattle.facts_memory.proofs.Words.{◌≡◌, ℕ, zero, suc, ◌/◌, ◌%◌, ◌<◌, ◌≤◌, List, [], ◌∷◌, All, length, slice_get, slice_index, slice_index_or, Option, Some}
+use Rattle.facts_memory.proofs.Words.{◌≡◌, ℕ, zero, suc, ◌<◌, List, [], ◌∷◌, All, length, slice_get, slice_index, slice_index_or, Option, Some}
 use Rattle.facts_memory.proofs.Words.{None, option_map, refl, sym, ap, subst, arith, lit<, All-cons, All-nil, prime, elements-index, IsTable, at_number}
-use Rattle.facts_memory.proofs.Words.{memory_values, Access, new_address, new_context, row_behind, rows_behind, step_behind, HasLimbs, HaveLimbs}
+use Rattle.facts_memory.proofs.Words.{memory_values, Access, row_behind, rows_behind, step_behind, HasLimbs, HaveLimbs}
 use Rattle.facts_memory.proofs.Words.{MemoryIsZero}
+use Rattle.facts_memory.proofs.Cells.{AllZero, CellsBelow, each_at, no_values, value_then}
 use Rattle.facts_memory.proofs.BehindZero.{NextFits, flags_zero, row_zero}
 use Rattle.facts_memory.proofs.Entries.{high_small, low_small}
 use Rattle.facts_memory.proofs.Fitting.{FitsBehind}
-use Rattle.facts_memory.proofs.Numbers.{limit}
-use Rattle.facts_memory.proofs.RowZeros.{AllZero, CellsBelow}
 
 -- each access fits behind the one before
 unfoldable pub Linked : Option Access → List Access → Type 0
@@ -26,38 +25,23 @@ pub record RowIs (row : List ℕ) : Type 0 where
   pub below : CellsBelow row
   pub limbs : HasLimbs row
 
-within : (n m : ℕ) → n ≤ m → m < prime → n < prime
-within n m le h = omega (arith, le, h)
-
-small : (n : ℕ) → n < limit → n < prime
-small n h = omega arith
-
-limb : (n : ℕ) → n < 65536 → n < prime
-limb n h = omega arith
-
 row_below : (before : Option Access) (a : Access) → FitsBehind before a → CellsBelow (row_behind before a)
 unfolding row_behind
-row_below before a f zero = within a.kind 2 f.shown.kind (lit< tt)
-row_below before a f (suc zero) = small a.ctx f.shown.limits.c_small
-row_below before a f (suc (suc zero)) = small a.addr f.shown.limits.a_small
-row_below before a f (suc (suc (suc zero))) = small a.clk f.shown.limits.k_small
-row_below before a f (suc (suc (suc (suc zero)))) = elements-index a.word 0 f.shown.word.below
-row_below before a f (suc (suc (suc (suc (suc zero))))) = elements-index a.word 1 f.shown.word.below
-row_below before a f (suc (suc (suc (suc (suc (suc zero)))))) = elements-index a.word 2 f.shown.word.below
-row_below before a f (suc (suc (suc (suc (suc (suc (suc zero))))))) = elements-index a.word 3 f.shown.word.below
-row_below before a f (suc (suc (suc (suc (suc (suc (suc (suc zero)))))))) =
-    let b = (flags_zero before a f).first_bit in small (new_context before a) (omega (arith, b))
-row_below before a f (suc (suc (suc (suc (suc (suc (suc (suc (suc zero))))))))) =
-    let b = (flags_zero before a f).second_bit in small (new_address before a) (omega (arith, b))
-row_below before a f (suc (suc (suc (suc (suc (suc (suc (suc (suc (suc zero)))))))))) =
-    limb (step_behind before a % 65536) (low_small (step_behind before a))
-row_below before a f (suc (suc (suc (suc (suc (suc (suc (suc (suc (suc (suc zero))))))))))) =
-    limb (step_behind before a / 65536) (high_small (step_behind before a) (flags_zero before a f).step_small)
-row_below before a f (suc (suc (suc (suc (suc (suc (suc (suc (suc (suc (suc (suc zero)))))))))))) =
-    limb (a.addr % 65536) (low_small a.addr)
-row_below before a f (suc (suc (suc (suc (suc (suc (suc (suc (suc (suc (suc (suc (suc zero))))))))))))) =
-    limb (a.addr / 65536) (high_small a.addr f.shown.limits.a_small)
-row_below before a f (suc (suc (suc (suc (suc (suc (suc (suc (suc (suc (suc (suc (suc (suc k)))))))))))))) = lit< tt
+row_below before a f =
+    let o = flags_zero before a f in
+    let k = f.shown.kind in
+    let c = f.shown.limits.ctx_small in
+    let d = f.shown.limits.addr_small in
+    let t = f.shown.limits.clk_small in
+    let n = o.first_bit in
+    let m = o.second_bit in
+    let l = high_small (step_behind before a) o.step_small in
+    let h = high_small a.addr d in
+    let e = λ (j : ℕ). elements-index a.word j f.shown.word.below in
+    each_at (λ v. v < prime) (row_behind before a) (lit< tt)
+    (value_then (omega (arith, k)) (value_then (omega (arith, c)) (value_then (omega (arith, d)) (value_then (omega (arith, t))
+    (value_then (e 0) (value_then (e 1) (value_then (e 2) (value_then (e 3) (value_then (omega (arith, n)) (value_then (omega (arith, m))
+    (value_then (omega arith) (value_then (omega (arith, l)) (value_then (omega arith) (value_then (omega (arith, h)) no_values))))))))))))))
 
 row_is : (before : Option Access) (a : Access) → FitsBehind before a → RowIs (row_behind before a)
 unfolding row_behind
@@ -68,7 +52,7 @@ row_is before a f = record {
     d0_small = low_small (step_behind before a);
     d1_small = high_small (step_behind before a) (flags_zero before a f).step_small;
     a0_small = low_small a.addr;
-    a1_small = high_small a.addr f.shown.limits.a_small;
+    a1_small = high_small a.addr f.shown.limits.addr_small;
   };
 }
 

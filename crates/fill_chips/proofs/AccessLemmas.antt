@@ -5,33 +5,16 @@ use Rattle.fill_chips.proofs.Words.{Fits, AccessesFit, IsSmallAccess, ShowsAcces
 use Rattle.std.specs.List.Sorted.{IsPermutation}
 use Rattle.air_kit.specs.declared.requests.Access.{Access}
 use Rattle.facts_memory.specs.AccessRows.{new_address, new_context, row_behind, rows_behind, step_behind}
-use Rattle.facts_memory.proofs.RowsShow.{rows_show}
+use Rattle.facts_memory.proofs.SortedFit.{rows_show}
 
 -- a row by its cells
-pub row-is : (before : Option Access) (a : Access) (c0 c1 c2 c3 c4 c5 c6 c7 c8 c9 c10 c11 c12 c13 : ℕ) → c0 ≡ a.kind → c1 ≡ a.ctx → c2 ≡ a.addr
+pub row-is : (before : Option Access) (a : Access) {c0 c1 c2 c3 c4 c5 c6 c7 c8 c9 c10 c11 c12 c13 : ℕ} → c0 ≡ a.kind → c1 ≡ a.ctx → c2 ≡ a.addr
     → c3 ≡ a.clk → c4 ≡ slice_index a.word 0 → c5 ≡ slice_index a.word 1 → c6 ≡ slice_index a.word 2 → c7 ≡ slice_index a.word 3
     → c8 ≡ new_context before a → c9 ≡ new_address before a → c10 ≡ step_behind before a % 65536 → c11 ≡ step_behind before a / 65536
     → c12 ≡ a.addr % 65536 → c13 ≡ a.addr / 65536
     → c0 ∷ c1 ∷ c2 ∷ c3 ∷ c4 ∷ c5 ∷ c6 ∷ c7 ∷ c8 ∷ c9 ∷ c10 ∷ c11 ∷ c12 ∷ c13 ∷ [] ≡ row_behind before a
 unfolding row_behind
-row-is before a c0 c1 c2 c3 c4 c5 c6 c7 c8 c9 c10 c11 c12 c13 e0 e1 e2 e3 e4 e5 e6 e7 e8 e9 e10 e11 e12 e13 =
-    ap₂ cell e0 (ap₂ cell e1 (ap₂ cell e2
-    (ap₂ cell e3 (ap₂ cell e4 (ap₂ cell e5
-    (ap₂ cell e6 (ap₂ cell e7 (ap₂ cell e8
-    (ap₂ cell e9 (ap₂ cell e10 (ap₂ cell e11
-    (ap₂ cell e12 (ap (λ (x : ℕ). x ∷ []) e13)))))))))))))
-  where
-    cell : ℕ → List ℕ → List ℕ
-    cell x xs = x ∷ xs
-
-behind-cons : (before : Option Access) (a : Access) (accesses : List Access)
-    → rows_behind before (a ∷ accesses) ≡ row_behind before a ∷ rows_behind (Some a) accesses
-unfolding rows_behind
-behind-cons before a accesses = refl
-
-behind-none : (before : Option Access) → rows_behind before [] ≡ []
-unfolding rows_behind
-behind-none before = refl
+row-is before a e0 e1 e2 e3 e4 e5 e6 e7 e8 e9 e10 e11 e12 e13 = cc
 
 -- the first row is that of an access behind none
 pub no_first_step : (accesses : List Access) (rows : List (List ℕ)) → rows ≡ rows_behind None accesses → HasNoFirstStep rows
@@ -43,20 +26,21 @@ no_first_step (a ∷ accesses) rows is = subst HasNoFirstStep (sym is) (record {
 pub rows-step : (sorted : List Access) (table new : List (List ℕ)) (row : List ℕ) (before : Option Access) (i : ℕ) (a : Access) → i < length sorted
     → a ≡ get_or sorted i a → new ≡ table ++ row ∷ [] → row ≡ row_behind before a
     → new ++ rows_behind (Some a) (drop (i + 1) sorted) ≡ table ++ rows_behind before (drop i sorted)
+unfolding rows_behind
 rows-step sorted table new row before i a within is new_is row_is =
     ap (λ (t : List (List ℕ)). t ++ rows_behind (Some a) (drop (i + 1) sorted)) new_is
     ∙ append_assoc table (row ∷ []) (rows_behind (Some a) (drop (i + 1) sorted))
     ∙ ap (λ rows. table ++ rows)
     (ap₂ (λ (r : List ℕ) (n : ℕ). r ∷ rows_behind (Some a) (drop n sorted)) row_is (add-one i)
-    ∙ sym (behind-cons before a (drop (suc i) sorted)) ∙ ap (rows_behind before) (sym next))
+    ∙ ap (rows_behind before) (sym next))
   where
     next : drop i sorted ≡ a ∷ drop (suc i) sorted
     next = drop-cons sorted i a within ∙ ap (λ x. x ∷ drop (suc i) sorted) (sym is)
 
 pub rows-done : (sorted : List Access) (table : List (List ℕ)) (before : Option Access) (i : ℕ) → length sorted ≤ i
     → table ++ rows_behind before (drop i sorted) ≡ table
-rows-done sorted table before i past =
-    ap (λ rows. table ++ rows) (ap (rows_behind before) (drop_all i sorted past) ∙ behind-none before) ∙ append-nil table
+unfolding rows_behind
+rows-done sorted table before i past = ap (λ rows. table ++ rows) (ap (rows_behind before) (drop_all i sorted past)) ∙ append-nil table
 
 -- the rows of accesses that fit show these
 pub rows-shown : (constants : List ℕ) (kernel : List (List ℕ)) (r : Requests) (accesses : List Access) (rows : List (List ℕ)) → accesses ≡ r.accesses

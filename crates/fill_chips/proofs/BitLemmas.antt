@@ -6,12 +6,11 @@ use Rattle.air_kit.specs.declared.requests.BitOp.{BitOp}
 use Rattle.facts_bitwise.specs.BitRows.{bit_row, bitwise, rows_before}
 
 -- a row by its cells
-pub row-is : (xor : Bool) (u v : ℕ) (c0 c1 c2 c3 c4 c5 c6 c7 c8 c9 c10 c11 : ℕ) → c0 ≡ bit_of xor → c1 ≡ u → c2 ≡ v → c3 ≡ u % 2 → c4 ≡ u / 2 % 2
+pub row-is : (xor : Bool) (u v : ℕ) {c0 c1 c2 c3 c4 c5 c6 c7 c8 c9 c10 c11 : ℕ} → c0 ≡ bit_of xor → c1 ≡ u → c2 ≡ v → c3 ≡ u % 2 → c4 ≡ u / 2 % 2
     → c5 ≡ u / 4 % 2 → c6 ≡ u / 8 % 2 → c7 ≡ v % 2 → c8 ≡ v / 2 % 2 → c9 ≡ v / 4 % 2 → c10 ≡ v / 8 % 2 → c11 ≡ bitwise xor u v
     → c0 ∷ c1 ∷ c2 ∷ c3 ∷ c4 ∷ c5 ∷ c6 ∷ c7 ∷ c8 ∷ c9 ∷ c10 ∷ c11 ∷ [] ≡ bit_row xor u v
 unfolding bit_row
-row-is xor u v c0 c1 c2 c3 c4 c5 c6 c7 c8 c9 c10 c11 e0 e1 e2 e3 e4 e5 e6 e7 e8 e9 e10 e11 =
-    rw (e0, e1, e2, e3, e4, e5, e6, e7, e8, e9, e10, e11) refl
+row-is xor u v e0 e1 e2 e3 e4 e5 e6 e7 e8 e9 e10 e11 = rw (e0, e1, e2, e3, e4, e5, e6, e7, e8, e9, e10, e11) refl
 
 pub without-is : (n : ℕ) (p : BitOp) → row_without n p ≡ bit_row p.xor (p.a / 2 ^ n) (p.b / 2 ^ n)
 unfolding row_without
@@ -27,22 +26,10 @@ unfolding rows_of_bits
 rows-push [] p = refl
 rows-push (q ∷ ops) p = ap (rows_before q) (rows-push ops p) ∙ before-append q (rows_of_bits ops) (rows_before p [])
 
-pub rows-none : rows_of_bits [] ≡ []
-unfolding rows_of_bits
-rows-none = refl
-
 -- the first rows of an operation
 unfoldable pub first_rows : BitOp → ℕ → List (List ℕ)
 first_rows p zero = []
 first_rows p (suc k) = first_rows p k ++ row_without (28 - 4 * k) p ∷ []
-
-pub first-none : (p : BitOp) → first_rows p 0 ≡ []
-unfolding first_rows
-first-none p = refl
-
-pub first-more : (p : BitOp) (k : ℕ) → first_rows p (suc k) ≡ first_rows p k ++ row_without (28 - 4 * k) p ∷ []
-unfolding first_rows
-first-more p k = refl
 
 whole : (p : BitOp) → row_without 0 p ≡ bit_row p.xor p.a p.b
 unfolding row_without

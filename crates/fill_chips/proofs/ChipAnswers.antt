@@ -52,27 +52,17 @@ none_at (suc n) = refl
 
 -- ---- buses
 
-sum_of_none : (a b c d e f : ℕ) → a ≡ 0 → b ≡ 0 → c ≡ 0 → d ≡ 0 → e ≡ 0 → f ≡ 0 → a + (b + (c + (d + (e + (f + 0))))) ≡ 0
-sum_of_none a b c d e f za zb zc zd ze zf = omega (arith, za, zb, zc, zd, ze, zf)
+-- a sum of six, by what each of them is
+six_are : {a b c d e f : ℕ} (g h i j k l n : ℕ) → a ≡ g → b ≡ h → c ≡ i → d ≡ j → e ≡ k → f ≡ l → g + h + i + j + k + l ≡ n
+    → a + (b + (c + (d + (e + (f + 0))))) ≡ n
+six_are g h i j k l n za zb zc zd ze zf is = omega (arith, za, zb, zc, zd, ze, zf, is)
 
 all_quiet : (r h b m k l : List (List ℕ)) (u : List ℕ)
     → over_rows (λ i x next. []) r u + (over_rows (λ i x next. []) h u + (over_rows (λ i x next. []) b u
     + (over_rows (λ i x next. []) m u + (over_rows (λ i x next. []) k u + (over_rows (λ i x next. []) l u + 0))))) ≡ counted [] u
 all_quiet r h b m k l u =
-    sum_of_none _ _ _ _ _ _ (over-quiet r u) (over-quiet h u) (over-quiet b u) (over-quiet m u) (over-quiet k u) (over-quiet l u)
+    six_are 0 0 0 0 0 0 0 (over-quiet r u) (over-quiet h u) (over-quiet b u) (over-quiet m u) (over-quiet k u) (over-quiet l u) refl
     ∙ sym (counted-none u)
-
-second_alone : (a b c d e f n : ℕ) → a ≡ 0 → b ≡ n → c ≡ 0 → d ≡ 0 → e ≡ 0 → f ≡ 0 → a + (b + (c + (d + (e + (f + 0))))) ≡ n
-second_alone a b c d e f n za is zc zd ze zf = omega (arith, za, is, zc, zd, ze, zf)
-
-third_alone : (a b c d e f n : ℕ) → a ≡ 0 → b ≡ 0 → c ≡ n → d ≡ 0 → e ≡ 0 → f ≡ 0 → a + (b + (c + (d + (e + (f + 0))))) ≡ n
-third_alone a b c d e f n za zb is zd ze zf = omega (arith, za, zb, is, zd, ze, zf)
-
-fourth_alone : (a b c d e f n : ℕ) → a ≡ 0 → b ≡ 0 → c ≡ 0 → d ≡ n → e ≡ 0 → f ≡ 0 → a + (b + (c + (d + (e + (f + 0))))) ≡ n
-fourth_alone a b c d e f n za zb zc is ze zf = omega (arith, za, zb, zc, is, ze, zf)
-
-fifth_alone : (a b c d e f n : ℕ) → a ≡ 0 → b ≡ 0 → c ≡ 0 → d ≡ 0 → e ≡ n → f ≡ 0 → a + (b + (c + (d + (e + (f + 0))))) ≡ n
-fifth_alone a b c d e f n za zb zc zd is zf = omega (arith, za, zb, zc, zd, is, zf)
 
 keys_again : (keys : List ℕ) → map key (map (λ (k : ℕ). k ∷ []) keys) ≡ keys
 keys_again [] = refl
@@ -129,16 +119,20 @@ module _ (constants : List ℕ) (kernel : List (List ℕ)) (r : Requests) (memor
   gives len fits states words bus.Groups u apart = all_quiet _ _ _ _ _ _ u
   gives len fits states words bus.Overflow u apart = all_quiet _ _ _ _ _ _ u
   gives len fits states words bus.Hasher u apart =
-      second_alone _ _ _ _ _ _ _ (over-quiet _ u) (rows_give constants r.perms u len states) (over-quiet _ u) (over-quiet _ u)
-      (over-quiet _ u) (over-quiet _ u)
+      let n = counted (answers_on constants r bus.Hasher) u in
+      six_are 0 n 0 0 0 0 n (over-quiet _ u) (rows_give constants len r.perms u states) (over-quiet _ u) (over-quiet _ u) (over-quiet _ u)
+      (over-quiet _ u) (omega arith)
   gives len fits states words bus.Bitwise u apart =
-      third_alone _ _ _ _ _ _ _ (over-quiet _ u) (over-quiet _ u) (bits_give r.bits u) (over-quiet _ u) (over-quiet _ u) (over-quiet _ u)
+      let n = counted (answers_on constants r bus.Bitwise) u in
+      six_are 0 0 n 0 0 0 n (over-quiet _ u) (over-quiet _ u) (bits_give r.bits u) (over-quiet _ u) (over-quiet _ u) (over-quiet _ u) (omega arith)
   gives len fits states words bus.Memory u apart =
-      fourth_alone _ _ _ _ _ _ _ (over-quiet _ u) (over-quiet _ u) (over-quiet _ u) (shown.given u) (over-quiet _ u) (over-quiet _ u)
+      let n = counted (answers_on constants r bus.Memory) u in
+      six_are 0 0 0 n 0 0 n (over-quiet _ u) (over-quiet _ u) (over-quiet _ u) (shown.given u) (over-quiet _ u) (over-quiet _ u) (omega arith)
   gives len fits states words bus.Range u apart = absurd (apart refl)
   gives len fits states words bus.Kernel u apart =
-      fifth_alone _ _ _ _ _ _ _ (over-quiet _ u) (over-quiet _ u) (over-quiet _ u) (over-quiet _ u)
-      (kernel_gives kernel r.calls u words fits.calls) (over-quiet _ u)
+      let n = counted (answers_on constants r bus.Kernel) u in
+      six_are 0 0 0 0 n 0 n (over-quiet _ u) (over-quiet _ u) (over-quiet _ u) (over-quiet _ u) (kernel_gives kernel r.calls u words fits.calls)
+      (over-quiet _ u) (omega arith)
 
 pub filled-answers : (constants : List ℕ) (kernel : List (List ℕ)) (r : Requests) (memory : List (List ℕ)) → length constants ≡ number_of_constants
     → Fits constants kernel r → All (λ p. IsState p.start) r.perms → HaveWords r.bits → ShowsAccesses r.accesses memory → All IsWord kernel

@@ -8,6 +8,8 @@ use Rattle.std.proofs.lemmas.List.Folds.{list_any_at}
 use Rattle.vm_field.proofs.Algebra.{felt_sub-same}
 use Rattle.vm_field.proofs.Elements.{elements-index}
 use Rattle.air_kit.specs.KernelValues.{kernel_values}
+use Rattle.facts_hasher.proofs.BlockLemmas.{all_family}
+use Rattle.facts_memory.proofs.RowsZero.{zero_number}
 use Rattle.fill_chips.proofs.GivenLemmas.{over-cons, over-none}
 
 pub kernel-size : (times : List ℕ → ℕ) (words : List (List ℕ)) → length (kernel_rows times words) ≡ length words
@@ -26,27 +28,17 @@ row-at times (word ∷ words) zero j are within low =
     get_or_append_left word (times word ∷ []) 0 j (omega (arith, four))
 row-at times (word ∷ words) (suc i) j are within low = row-at (without word times) words i j (All-tail IsWord word words are) (omega arith) low
 
-family_at : (n : ℕ) (value : ℕ → ℕ) (m : ℕ) → ((j : ℕ) → j < n → value j ≡ 0) → slice_index (family n value) m ≡ 0
-unfolding family
-family_at zero value m none = refl
-family_at (suc n) value zero none = none 0 (omega arith)
-family_at (suc n) value (suc m) none = family_at n (λ j. value (suc j)) m (λ j h. none (suc j) (omega arith))
-
-family_zero : (n : ℕ) (value : ℕ → ℕ) (number : ℕ) → ((j : ℕ) → j < n → value j ≡ 0) → at_number (family n value) number ≡ 0
-unfolding at_number
-family_zero n value zero none = refl
-family_zero n value (suc m) none = family_at n value m none
-
 pub kernel-zero : (c : Claim) (times : List ℕ → ℕ) (words : List (List ℕ)) → c.kernel ≡ words → All IsWord words → (i number : ℕ)
     → i < length (kernel_rows times words) → at_number (kernel_values c (spot_of (kernel_rows times words) i)) number ≡ 0
 unfolding kernel_values
 kernel-zero c times words e are i number within =
-    family_zero 4 _ number (λ j low.
+    zero_number (family 4 (λ j. slice_index (slice_index_or (kernel_rows times words) i []) j ⊟ slice_index (slice_index_or c.kernel i []) j))
+    number (all_family 4 _ (λ j low.
     let low_i : i < length words = omega (arith, kernel-size times words) in
     let same = row-at times words i j are low_i low in
     ap₂ (λ (m : ℕ) (kernel : List (List ℕ)). m ⊟ slice_index (slice_index_or kernel i []) j) same e
     ∙ felt_sub-same (slice_index (slice_index_or words i []) j) (slice_index (slice_index_or words i []) j)
-    (elements-index (slice_index_or words i []) j (are i [] low_i).below) refl)
+    (elements-index (slice_index_or words i []) j (are i [] low_i).below) refl))
 
 -- ---- what is given
 

@@ -24,10 +24,6 @@ rows-next f g word words table same =
     append_assoc table ((word ++ f word ∷ []) ∷ []) (kernel_rows g words)
     ∙ ap (λ rows. table ++ (word ++ f word ∷ []) ∷ rows) (rows-alike g (without word f) words same)
 
-pub rows-end : (f : List ℕ → ℕ) → kernel_rows f [] ≡ []
-unfolding kernel_rows
-rows-end f = refl
-
 pub without-few : (b : Bool) (n left most : ℕ) → left ≡ cond b 0 n → n ≤ most → left ≤ most
 without-few true n left most e h = omega (arith, e)
 without-few false n left most e h = omega (arith, e, h)
@@ -45,5 +41,6 @@ rows-step f g kernel table new row i word count within word_is new_is row_is cou
     here = drop-cons kernel i word within ∙ ap₂ (λ (w : List ℕ) (n : ℕ). w ∷ drop n kernel) (sym word_is) (sym (add-one i))
 
 pub rows-done : (f : List ℕ → ℕ) (kernel table : List (List ℕ)) (i : ℕ) → length kernel ≤ i → table ++ kernel_rows f (drop i kernel) ≡ table
+unfolding kernel_rows
 rows-done f kernel table i past =
-    ap (λ (words : List (List ℕ)). table ++ kernel_rows f words) (drop_all i kernel past) ∙ ap (λ rows. table ++ rows) (rows-end f) ∙ append-nil table
+    ap (λ (words : List (List ℕ)). table ++ kernel_rows f words) (drop_all i kernel past) ∙ append-nil table

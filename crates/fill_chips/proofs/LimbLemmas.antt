@@ -5,14 +5,6 @@ use Rattle.fill_chips.proofs.Words.{limbs_in, limbs_of_access}
 use Rattle.chip_columns.specs.MemoryColumns.{d0, d1, a0, a1}
 use Rattle.fill_chips.proofs.GivenLemmas.{over-cons, over-none}
 
-pub limbs-none : limbs_in [] ≡ []
-unfolding limbs_in
-limbs-none = refl
-
-limbs-cons : (row : List ℕ) (rows : List (List ℕ)) → limbs_in (row ∷ rows) ≡ limbs_of_access row ++ limbs_in rows
-unfolding limbs_in
-limbs-cons row rows = refl
-
 pub limbs-push : (rows : List (List ℕ)) (row : List ℕ) → limbs_in (rows ++ row ∷ []) ≡ limbs_in rows ++ limbs_of_access row
 unfolding limbs_in
 limbs-push [] row = refl
@@ -47,11 +39,8 @@ asked-both xs ys u =
 
 pub limbs-asked : (rows : List (List ℕ)) (u : List ℕ)
     → counted (map (λ v. once (v ∷ [])) (limbs_in rows)) u ≡ over_rows (λ i x next. memory_ranges x) rows u
-limbs-asked [] u =
-    ap (λ limbs. counted (map (λ (v : ℕ). once (v ∷ [])) limbs) u) limbs-none ∙ counted-none u
-    ∙ sym (over-none (λ i x next. memory_ranges x) u)
+unfolding limbs_in
+limbs-asked [] u = counted-none u ∙ sym (over-none (λ i x next. memory_ranges x) u)
 limbs-asked (row ∷ rows) u =
-    ap (λ limbs. counted (map (λ (v : ℕ). once (v ∷ [])) limbs) u) (limbs-cons row rows)
-    ∙ asked-both (limbs_of_access row) (limbs_in rows) u
-    ∙ ap₂ (λ m n. m + n) (row-asks row u) (limbs-asked rows u)
+    asked-both (limbs_of_access row) (limbs_in rows) u ∙ ap₂ (λ m n. m + n) (row-asks row u) (limbs-asked rows u)
     ∙ sym (over-cons memory_ranges row rows u)

@@ -3,7 +3,7 @@ use Rattle.fill_chips.proofs.Words.{◌≡◌, ℕ, ◌+◌, ◌*◌, ◌<◌, �
 use Rattle.fill_chips.proofs.Words.{append_assoc, arith, length-append, length-take, cases_lt, append-nil, get_or_past, take_more, count_by-le-length}
 use Rattle.fill_chips.proofs.Words.{sum_by-append, limbs_in, limbs_of_access, AreTimes, times_asked}
 use Rattle.vm_table.specs.Layout.{row_at}
-use Rattle.fill_chips.proofs.LimbLemmas.{limbs-count, limbs-none, limbs-push}
+use Rattle.fill_chips.proofs.LimbLemmas.{limbs-count, limbs-push}
 
 times-both : (xs ys : List ℕ) (v : ℕ) → times_asked (xs ++ ys) v ≡ times_asked xs v + times_asked ys v
 times-both xs ys v = sum_by-append (λ x. cond (eqb x v) 1 0) xs ys
@@ -11,11 +11,12 @@ times-both xs ys v = sum_by-append (λ x. cond (eqb x v) 1 0) xs ys
 -- before the first row
 pub times-begun : (asked zeros times : List ℕ) → length times ≡ 65536 → ((v : ℕ) → slice_index zeros v ≡ 0)
     → ((v : ℕ) → slice_index times v ≡ slice_index zeros v + times_asked asked v) → AreTimes (asked ++ limbs_in []) times
+unfolding limbs_in
 times-begun asked zeros times size none counts = record {
   values = size;
   counts = λ v h.
       let same : times_asked asked v ≡ times_asked (asked ++ limbs_in []) v =
-      ap (λ values. times_asked values v) (sym (append-nil asked) ∙ ap (λ limbs. asked ++ limbs) (sym limbs-none)) in
+      ap (λ values. times_asked values v) (sym (append-nil asked)) in
       let e = counts v in
       let z = none v in
       omega (arith, same, e, z);

@@ -2,9 +2,6 @@
 use Rattle.fill_chips.proofs.Words.{◌≡◌, ℕ, ◌+◌, ◌<◌, ◌≤◌, inl, inr, true, false, cond, eqb, ltb, min, List, [], ◌∷◌, slice_index, refl, sym, subst, arith}
 use Rattle.fill_chips.proofs.Words.{cases_lt, nat_tests, sum_by-cons, AreTimes, next_asked, times_asked}
 
-pub times-none : (v : ℕ) → times_asked [] v ≡ 0
-times-none v = refl
-
 pub times-cons : (value : ℕ) (asked : List ℕ) (v : ℕ) → times_asked (value ∷ asked) v ≡ cond (eqb value v) 1 0 + times_asked asked v
 times-cons value asked v = sum_by-cons (λ x. cond (eqb x v) 1 0) value asked
 
@@ -37,6 +34,10 @@ here-asked value asked =
     let one : ◌≡◌ {A = ℕ} (cond (eqb value value) 1 0) 1 = rw own refl in
     omega (arith, t, one)
 
+kept-asked : (value : ℕ) (asked : List ℕ) (v : ℕ) → next_asked (value ∷ asked) v ≡ next_asked asked v → 0 < times_asked asked (next_asked asked v)
+    → 0 < times_asked (value ∷ asked) (next_asked (value ∷ asked) v)
+kept-asked value asked v e some = subst (λ n. 0 < times_asked (value ∷ asked) n) (sym e) (more-asked value asked (next_asked asked v) some)
+
 -- it is asked, unless it is the table's last value
 pub next-asked : (asked : List ℕ) (v : ℕ) → next_asked asked v < 65535 → 0 < times_asked asked (next_asked asked v)
 next-asked [] v h = absurd (let e = next-none v in omega (arith, e))
@@ -44,21 +45,19 @@ next-asked (value ∷ asked) v h = elim (cases_lt v value) [
   | inl above ↦ elim (cases_lt (next_asked asked v) value) [
     | inl more ↦
         let e : next_asked (value ∷ asked) v ≡ next_asked asked v = (let n = next-cons value asked v in grind (arith, nat_tests)) in
-        subst (λ n. 0 < times_asked (value ∷ asked) n) (sym e)
-        (more-asked value asked (next_asked asked v) (next-asked asked v (omega (arith, e, h))))
+        kept-asked value asked v e (next-asked asked v (omega (arith, e, h)))
     | inr less ↦
         let e : next_asked (value ∷ asked) v ≡ value = (let n = next-cons value asked v in grind (arith, nat_tests)) in
         subst (λ n. 0 < times_asked (value ∷ asked) n) (sym e) (here-asked value asked)
   ]
   | inr below ↦
       let e : next_asked (value ∷ asked) v ≡ next_asked asked v = (let n = next-cons value asked v in grind (arith, nat_tests)) in
-      subst (λ n. 0 < times_asked (value ∷ asked) n) (sym e)
-      (more-asked value asked (next_asked asked v) (next-asked asked v (omega (arith, e, h))))
+      kept-asked value asked v e (next-asked asked v (omega (arith, e, h)))
 ]
 
 -- and none before it is
 pub next-least : (asked : List ℕ) (v u : ℕ) → v < u → u < next_asked asked v → times_asked asked u ≡ 0
-next-least [] v u above below = times-none u
+next-least [] v u above below = refl
 next-least (value ∷ asked) v u above below =
     let n = next-cons value asked v in
     let t = times-cons value asked u in

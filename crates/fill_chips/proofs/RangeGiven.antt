@@ -3,7 +3,7 @@ use Rattle.fill_chips.proofs.Words.{◌≡◌, ℕ, zero, suc, ◌+◌, ◌<◌,
 use Rattle.fill_chips.proofs.Words.{refl, sym, ap, ap₂, ◌∙◌, arith, cases_lt, nat_tests, All-head, All-tail, pointwise, counted, once, over_rows, range_given}
 use Rattle.fill_chips.proofs.Words.{range_row, range_rows, rows_from, times_asked, value_behind}
 use Rattle.fill_chips.proofs.GivenLemmas.{over-cons, over-none}
-use Rattle.fill_chips.proofs.NextLemmas.{next-least, times-cons, times-none}
+use Rattle.fill_chips.proofs.NextLemmas.{next-least, times-cons}
 use Rattle.fill_chips.proofs.RowsFrom.{behind-far, behind-last, behind-on, rows-last, rows-more}
 
 -- how often rows give a tuple
@@ -30,7 +30,7 @@ row-other asked v u e = other_by (pointwise nat_eq (v ∷ []) u) (times_asked as
 
 asked-single : (asked : List ℕ) (w : ℕ) → counted (map (λ v. once (v ∷ [])) asked) (w ∷ []) ≡ times_asked asked w
 unfolding counted
-asked-single [] w = sym (times-none w)
+asked-single [] w = refl
 asked-single (v ∷ asked) w =
     ap₂ (λ m n. m + n) (one_by (eqb v w)) (asked-single asked w) ∙ sym (times-cons v asked w)
   where
@@ -44,7 +44,7 @@ asked-other [] u none = refl
 asked-other (v ∷ asked) u none = let later = asked-other asked u none in rw (none v) (omega (arith, later))
 
 times-beyond : (asked : List ℕ) (w : ℕ) → All (λ v. v < 65536) asked → 65535 < w → times_asked asked w ≡ 0
-times-beyond [] w small beyond = times-none w
+times-beyond [] w small beyond = refl
 times-beyond (v ∷ asked) w small beyond =
     let e = times-cons v asked w in
     let later = times-beyond asked w (All-tail (λ n. n < 65536) v asked small) beyond in
@@ -100,20 +100,21 @@ from-single (suc n) asked v w enough low none = elim (cases_lt v 65535) [
       ]
 ]
 
-from-other : (n : ℕ) (asked : List ℕ) (v : ℕ) (u : List ℕ) → ((w : ℕ) → pointwise nat_eq (w ∷ []) u ≡ false) → range_over (rows_from n asked v) u ≡ 0
-unfolding rows_from
-from-other zero asked v u none =
+last-other : (asked u : List ℕ) → ((w : ℕ) → pointwise nat_eq (w ∷ []) u ≡ false) → range_over (range_row asked 65535 ∷ []) u ≡ 0
+last-other asked u none =
     over-cons range_given (range_row asked 65535) [] u
     ∙ ap₂ (λ m n. m + n) (row-other asked 65535 u (none 65535)) (over-none (λ i row next. range_given row) u)
+
+from-other : (n : ℕ) (asked : List ℕ) (v : ℕ) (u : List ℕ) → ((w : ℕ) → pointwise nat_eq (w ∷ []) u ≡ false) → range_over (rows_from n asked v) u ≡ 0
+unfolding rows_from
+from-other zero asked v u none = last-other asked u none
 from-other (suc n) asked v u none =
     elim (ltb v 65535) as (λ b. range_over
     (cond b (range_row asked v ∷ rows_from n asked (value_behind asked v)) (range_row asked 65535 ∷ [])) u ≡ 0) [
       | true ↦
           over-cons range_given (range_row asked v) (rows_from n asked (value_behind asked v)) u
           ∙ ap₂ (λ m n. m + n) (row-other asked v u (none v)) (from-other n asked (value_behind asked v) u none)
-      | false ↦
-          over-cons range_given (range_row asked 65535) [] u
-          ∙ ap₂ (λ m n. m + n) (row-other asked 65535 u (none 65535)) (over-none (λ i row next. range_given row) u)
+      | false ↦ last-other asked u none
     ]
 
 rows-other : (asked u : List ℕ) → ((w : ℕ) → pointwise nat_eq (w ∷ []) u ≡ false)

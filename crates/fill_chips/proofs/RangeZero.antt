@@ -5,6 +5,8 @@ use Rattle.fill_chips.proofs.Words.{next_asked, range_row, range_rows, rows_from
 use Rattle.chip_columns.specs.RangeColumns.{v as value_of}
 use Rattle.air_kit.specs.ChipPlaces.{in_last, only, paired}
 use Rattle.air_kit.specs.RangeValues.{range_step, range_values}
+use Rattle.facts_memory.proofs.Cells.{each_at, no_values, value_then}
+use Rattle.facts_memory.proofs.RowsZero.{zero_number}
 use Rattle.fill_chips.proofs.NextLemmas.{next-last}
 use Rattle.fill_chips.proofs.RowsFrom.{behind-is, behind-last, behind-on, rows-last, rows-more}
 use Rattle.fill_chips.proofs.StepLemmas.{step-cons, step-far}
@@ -100,12 +102,9 @@ chained-zero (x ∷ y ∷ rows) chained zero within = (refl, chained.0)
 chained-zero (x ∷ y ∷ rows) chained (suc i) within = chained-zero (y ∷ rows) chained.1 i (omega arith)
 
 three_zero : (a b c number : ℕ) → a ≡ 0 → b ≡ 0 → c ≡ 0 → at_number (a ∷ b ∷ c ∷ []) number ≡ 0
-unfolding at_number
-three_zero a b c zero za zb zc = refl
-three_zero a b c (suc zero) za zb zc = za
-three_zero a b c (suc (suc zero)) za zb zc = zb
-three_zero a b c (suc (suc (suc zero))) za zb zc = zc
-three_zero a b c (suc (suc (suc (suc number)))) za zb zc = refl
+three_zero a b c number za zb zc =
+    zero_number (a ∷ b ∷ c ∷ []) number
+    (each_at (λ v. v ≡ 0) (a ∷ b ∷ c ∷ []) refl (value_then za (value_then zb (value_then zc no_values))))
 
 only_later : (i n : ℕ) → only (eqb (suc i) 0) n ≡ 0
 only_later i n = let e : eqb (suc i) 0 ≡ false = grind (arith, nat_tests) in rw e refl

@@ -1,7 +1,7 @@
 -- States filled one after another, pieces put together, and rounds one behind the other.
-use Rattle.fill_chips.proofs.Words.{◌≡◌, ℕ, ◌+◌, ◌-◌, ◌*◌, ◌/◌, ◌<◌, ◌≤◌, min, List, [], ◌∷◌, ◌++◌, length, get_or, take, drop, map, refl, sym, ap, ap₂, ◌∙◌}
+use Rattle.fill_chips.proofs.Words.{◌≡◌, ℕ, ◌+◌, ◌-◌, ◌*◌, ◌/◌, ◌<◌, ◌≤◌, min, List, ◌++◌, length, get_or, take, drop, sym, ap, ap₂, ◌∙◌}
 use Rattle.fill_chips.proofs.Words.{arith, inl, inr, length-take, length-drop, cases_lt, map-append, drop-drop, get_or-map, take-add, take_all, cut_at}
-use Rattle.fill_chips.proofs.Words.{cut_starts, cut_ends, round_states, Perm, states_of}
+use Rattle.fill_chips.proofs.Words.{cut_grows, cut_starts, cut_ends, round_states, Perm, states_of}
 use Rattle.fill_chips.specs.Rounds.{between}
 
 between_joined : {A : Type 0} (i m j : ℕ) (xs : List A) → i ≤ m → m ≤ j → between i m xs ++ between m j xs ≡ between i j xs
@@ -24,24 +24,31 @@ halves_filled constants i m j perms lower upper low high first second =
     ap₂ ◌++◌ first second ∙ sym (map-append (λ p. round_states constants p.start) (between i m perms) (between m j perms))
     ∙ ap (states_of constants) (between_joined i m j perms low high)
 
-pub le_from : (a b x y : ℕ) → a ≡ x → b ≡ y → x ≤ y → a ≤ b
-le_from a b x y e f h = omega (arith, e, f, h)
+pub le_from : {a b x y : ℕ} → a ≡ x → b ≡ y → x ≤ y → a ≤ b
+le_from e f h = omega (arith, e, f, h)
 
-pub low_middle : (low high : ℕ) → low < high → low ≤ low + (high - low) / 2
+low_middle : (low high : ℕ) → low < high → low ≤ low + (high - low) / 2
 low_middle low high h = omega arith
 
-pub middle_high : (low high : ℕ) → low < high → low + (high - low) / 2 ≤ high
+middle_high : (low high : ℕ) → low < high → low + (high - low) / 2 ≤ high
 middle_high low high h = omega (arith, h)
 
+-- the cuts of a part's two halves stand in order
+pub cuts_grow : (low high n k : ℕ) → low < high → high ≤ k
+    → (cut_at low n k ≤ cut_at (low + (high - low) / 2) n k) × (cut_at (low + (high - low) / 2) n k ≤ cut_at high n k)
+cuts_grow low high n k some within =
+    let few : 0 < k = omega (arith, some, within) in
+    (cut_grows low (low + (high - low) / 2) n k (low_middle low high some) few, cut_grows (low + (high - low) / 2) high n k (middle_high low high some) few)
+
 -- how long the halves are
-pub part_fits : (a b c from to n : ℕ) → from ≡ a → to ≡ b → a ≤ b → b ≤ c → a + n ≡ c → to - from ≤ n
-part_fits a b c from to n e f h k room = omega (arith, e, f, h, k, room)
+pub part_fits : {a b c from to n : ℕ} → from ≡ a → to ≡ b → a ≤ b → b ≤ c → a + n ≡ c → to - from ≤ n
+part_fits e f h k room = omega (arith, e, f, h, k, room)
 
-pub first_length : (a b from to m : ℕ) → from ≡ a → to ≡ b → a ≤ b → m ≡ to - from → a + m ≡ b
-first_length a b from to m e f h is = omega (arith, e, f, h, is)
+pub first_length : {a b from to m : ℕ} → from ≡ a → to ≡ b → a ≤ b → m ≡ to - from → a + m ≡ b
+first_length e f h is = omega (arith, e, f, h, is)
 
-pub second_length : (a b c from to n m : ℕ) → from ≡ a → to ≡ b → a ≤ b → b ≤ c → a + n ≡ c → m + (to - from) ≡ n → b + m ≡ c
-second_length a b c from to n m e f h k room is = omega (arith, e, f, h, k, room, is)
+pub second_length : {a b c from to n : ℕ} (m : ℕ) → from ≡ a → to ≡ b → a ≤ b → b ≤ c → a + n ≡ c → m + (to - from) ≡ n → b + m ≡ c
+second_length m e f h k room is = omega (arith, e, f, h, k, room, is)
 
 -- a piece of the list, where the bounds are known
 pub piece_filled : (constants : List ℕ) (from to a b : ℕ) (perms : List Perm) (states : List (List (List ℕ))) → from ≡ a → to ≡ b

@@ -2,10 +2,6 @@
 use Rattle.fill_chips.proofs.Words.{◌≡◌, ℕ, suc, ◌+◌, ◌<◌, ◌≤◌, cond, leb, List, [], ◌∷◌, length, get_or, drop, refl, arith, add-one, drop-cons, drop_all}
 use Rattle.fill_chips.proofs.Words.{nat_tests, allowed_steps, step_within}
 
-step-none : (d : ℕ) → step_within [] d ≡ 0
-unfolding step_within
-step-none d = refl
-
 pub step-cons : (s : ℕ) (steps : List ℕ) (d : ℕ) → step_within (s ∷ steps) d ≡ cond (leb s d) s (step_within steps d)
 unfolding step_within
 step-cons s steps d = refl
@@ -39,4 +35,5 @@ step-passed steps i d within far =
     rw (add-one i, drop-cons steps i 0 within) (grind (arith, nat_tests))
 
 pub step-past : (steps : List ℕ) (i d : ℕ) → length steps ≤ i → step_within (drop i steps) d ≡ 0
-step-past steps i d past = rw (drop_all i steps past) (step-none d)
+unfolding step_within
+step-past steps i d past = rw (drop_all i steps past) refl

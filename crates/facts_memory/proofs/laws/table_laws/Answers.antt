@@ -1,10 +1,9 @@
 use Rattle.facts_memory.proofs.MainServes.{main_serves, pairs_main}
-use Rattle.facts_memory.proofs.RowsAre.{zeros_are_rows}
 use Rattle.facts_memory.proofs.RowsBack.{rows_are_zero}
-use Rattle.facts_memory.proofs.RowsShow.{rows_show}
+use Rattle.facts_memory.proofs.SortedFit.{rows_show}
 use Rattle.facts_memory.proofs.ShowsLatest.{shows_latest}
 use Rattle.facts_memory.proofs.TableServes.{pairs, serves}
-use Rattle.facts_memory.proofs.ZerosOrder.{zeros_are_ordered}
+use Rattle.facts_memory.proofs.ZerosOrder.{zeros_are_ordered, zeros_are_rows}
 use Rattle.facts_memory.proofs.laws.table_laws.Goals as goal
 
 pub returns : goal.returns

@@ -1,11 +1,12 @@
 use Rattle.fill_chips.proofs.Words.{[], ◌∷◌, ◌++◌, false, get_or, take, sym, subst, ap, ◌∙◌, take_more, All-append, All-cons, All-nil, rows_of_bits}
 use Rattle.fill_chips.proofs.Words.{HaveWords, HasWords}
 use Rattle.facts_bitwise.specs.BitRows.{rows_before}
-use Rattle.fill_chips.proofs.BitLemmas.{rows-none, rows-push}
+use Rattle.fill_chips.proofs.BitLemmas.{rows-push}
 use Rattle.fill_chips.proofs.bitwise.bitwise_table.Goals as goal
 
 pub loop-op-init : goal.loop-op-init
-loop-op-init c = record { rows = c.reserve.ensures ∙ c.new-table.ensures.empty ∙ sym rows-none; words = All-nil HasWords }
+unfolding rows_of_bits
+loop-op-init c = record { rows = c.reserve.ensures ∙ c.new-table.ensures.empty; words = All-nil HasWords }
 
 pub loop-op-preserved : goal.loop-op-preserved
 loop-op-preserved c =

@@ -1,4 +1,4 @@
-use Rattle.fill_chips.proofs.Words.{◌≤◌, ◌<◌, ◌∙◌, ◌++◌, length, ap, arith}
+use Rattle.fill_chips.proofs.Words.{◌≤◌, ◌<◌, length, arith}
 use Rattle.fill_chips.proofs.RoundLemmas.{round_room, whole_round}
 use Rattle.fill_chips.proofs.hasher.add_round.Goals as goal
 

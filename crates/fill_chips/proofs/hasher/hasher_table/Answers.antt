@@ -1,12 +1,13 @@
-use Rattle.fill_chips.proofs.Words.{◌≡◌, ◌+◌, ◌*◌, ◌<◌, ◌≤◌, ◌++◌, ◌-◌, ◌∙◌, All, drop, length, take, sym, subst, ap, arith, take_all, All-append, All-nil}
+use Rattle.fill_chips.proofs.Words.{◌*◌, ◌<◌, ◌≤◌, ◌++◌, ◌-◌, ◌∙◌, All, drop, length, take, sym, subst, ap, arith, take_all, All-append, All-nil}
 use Rattle.fill_chips.proofs.Words.{IsState, rows_of_perms}
-use Rattle.fill_chips.proofs.PermLemmas.{rows-append, rows-none}
+use Rattle.fill_chips.proofs.PermLemmas.{rows-append}
 use Rattle.fill_chips.proofs.RoundLemmas.{round_more}
 use Rattle.fill_chips.proofs.hasher.hasher_table.Goals as goal
 
 pub loop-k-init : goal.loop-k-init
+unfolding rows_of_perms
 loop-k-init g c = record {
-  rows = c.reserve.ensures ∙ c.new-table.ensures.empty ∙ sym (rows-none c.args.permutations.now);
+  rows = c.reserve.ensures ∙ c.new-table.ensures.empty;
   states = All-nil (λ p. IsState p.start);
   room = c.in_ok-resize.ensures.len ∙ c.min.ensures;
 }

@@ -1,12 +1,14 @@
-use Rattle.fill_chips.proofs.Words.{append-nil, ◌≡◌, ◌+◌, [], ◌∷◌, ◌++◌, false, sym, ap, ◌∙◌, append_assoc, add-one, arith, perm_row}
+use Rattle.fill_chips.proofs.Words.{append-nil, ◌≡◌, [], ◌∷◌, ◌++◌, false, sym, ap, ◌∙◌, append_assoc, add-one, arith, perm_row}
 use Rattle.perm_memo.proofs.StateLemmas.{round_states-at}
-use Rattle.fill_chips.proofs.PermLemmas.{ok_then, first_rows, first-all, first-more, first-none, row-is}
+use Rattle.fill_chips.proofs.PermLemmas.{ok_then, first_rows, first-all, row-is}
 use Rattle.fill_chips.proofs.hasher.push_permutation.Goals as goal
 
 pub loop-k-init : goal.loop-k-init
-loop-k-init c = λ constants is. sym (ap (λ rows. c.args.table.now ++ rows) (first-none constants c.args.perm.now) ∙ append-nil c.args.table.now)
+unfolding first_rows
+loop-k-init c = λ constants is. sym (append-nil c.args.table.now)
 
 pub loop-k-preserved : goal.loop-k-preserved
+unfolding first_rows
 loop-k-preserved c = λ constants is.
     let perm = c.args.perm.now in
     let k = c.loop-k.k in
@@ -15,7 +17,7 @@ loop-k-preserved c = λ constants is.
     ∙ ap (λ row. c.loop-k.table ++ row ∷ []) (c.row_of.ensures ∙ row-is constants perm k false _ state)
     ∙ ap (λ table. table ++ perm_row constants perm k false ∷ []) (c.loop-k.invariant constants is)
     ∙ append_assoc c.args.table.now (first_rows constants perm k) (perm_row constants perm k false ∷ [])
-    ∙ ap (λ rows. c.args.table.now ++ rows) (sym (first-more constants perm k) ∙ ap (first_rows constants perm) (sym (add-one k)))
+    ∙ ap (λ rows. c.args.table.now ++ rows) (ap (first_rows constants perm) (sym (add-one k)))
 
 pub returns-clause-rows : goal.returns-clause-rows
 returns-clause-rows c = λ constants is.

@@ -1,13 +1,14 @@
 use Rattle.fill_chips.proofs.Words.{◌≡◌, ◌+◌, ◌≤◌, [], ◌∷◌, ◌++◌, ◌∙◌, All, append_assoc, length, take, sym, subst, ap, arith, take_all, append-nil}
 use Rattle.fill_chips.proofs.Words.{take_more, All-append, All-cons, All-nil, IsState, round_states, rows_of_perms}
 use Rattle.facts_hasher.specs.PermRows.{rows_before}
-use Rattle.fill_chips.proofs.PermLemmas.{rows-none, rows-push}
+use Rattle.fill_chips.proofs.PermLemmas.{rows-push}
 use Rattle.fill_chips.proofs.RoundLemmas.{state_of_index}
 use Rattle.fill_chips.proofs.hasher.push_permutations.Goals as goal
 
 pub loop-i-init : goal.loop-i-init
+unfolding rows_of_perms
 loop-i-init c = record {
-  rows = λ constants is. sym (ap (λ rows. c.args.table.now ++ rows) (rows-none constants) ∙ append-nil c.args.table.now);
+  rows = λ constants is. sym (append-nil c.args.table.now);
   states = All-nil (λ p. IsState p.start);
 }
 

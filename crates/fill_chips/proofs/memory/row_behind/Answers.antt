@@ -8,7 +8,7 @@ returns-clause-row c =
     let word = c.args.access.word in
     let four : length word ≡ 4 = search rules in
     let step = c.step_behind-step.ensures in
-    row-is c.args.before.now c.args.access _ _ _ _ _ _ _ _ _ _ _ _ _ _ (c.from_u32.ensures ∙ c.from.ensures) c.from_u32-2.ensures c.from_u32-3.ensures
+    row-is c.args.before.now c.args.access (c.from_u32.ensures ∙ c.from.ensures) c.from_u32-2.ensures c.from_u32-3.ensures
     c.from_u32-4.ensures (get_or_default_zero word 0 c.index-access-0.result (omega (arith, four)))
     (get_or_default_zero word 1 c.index-access-1.result (omega (arith, four)))
     (get_or_default_zero word 2 c.index-access-2.result (omega (arith, four)))

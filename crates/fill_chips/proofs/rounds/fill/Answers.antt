@@ -1,4 +1,4 @@
-use Rattle.fill_chips.proofs.Words.{◌≡◌, ◌≤◌, ◌∙◌, [], length, get_or, sym, arith, length-map, ext_get_or, round_states, states_of}
+use Rattle.fill_chips.proofs.Words.{◌≡◌, ◌≤◌, ◌∙◌, [], length, sym, arith, length-map, ext_get_or, round_states, states_of}
 use Rattle.fill_chips.proofs.rounds.fill.Goals as goal
 
 pub returns : goal.returns

@@ -1,4 +1,4 @@
-use Rattle.fill_chips.proofs.Words.{◌≡◌, ℕ, ◌<◌, [], length, get_or, map, states_of}
+use Rattle.fill_chips.proofs.Words.{◌≡◌, ℕ, ◌<◌, [], length, get_or, states_of}
 use Rattle.fill_chips.proofs.rounds.fill.Given as goal
 
 abbrev pub invariant-loop-k : goal.invariant-loop-k
