@@ -1,112 +1,76 @@
 -- The positions that a row says are in use are those of its batch.
-use Rattle.sound_blocks.proofs.Words.{◌≡◌, ◌≢◌, ◌⊎◌, inl, inr, ℕ, zero, suc, ◌+◌, ◌-◌, ◌<◌, ◌≤◌, Bool, true, false, eqb, ◌&&◌, List, [], ◌∷◌, drop}
-use Rattle.sound_blocks.proofs.Words.{slice_index, refl, sym, ap, ap₂, ◌∙◌, arith, lit<, take, get_or, eq-eqb, ne_eqb, cond-true, cond-false, drop-cons}
-use Rattle.sound_blocks.proofs.Words.{drop-take, get_or-take, length-take-le, felt_add, felt_mul, h, c, eight, positions}
+use Rattle.sound_blocks.proofs.Words.{◌≡◌, ◌≢◌, ◌⊎◌, inl, inr, ℕ, zero, suc, ◌+◌, ◌-◌, ◌*◌, ◌<◌, ◌≤◌, true, false, ◌&&◌, List, [], ◌∷◌, drop, slice_index, refl}
+use Rattle.sound_blocks.proofs.Words.{sym, ap, ap₂, ◌∙◌, arith, take, and_right, cases_lt, eqb, eq-eqb, ne_eqb, cond-true, cond-false, drop-cons, drop-take}
+use Rattle.sound_blocks.proofs.Words.{get_or-drop, get_or-take, get_or_past, length-take-le, felt_add, felt_mul, h, c, eight, positions}
 use Rattle.op_pack.specs.Reading.{are_zero, positions_in_use}
-use Rattle.facts_main.specs.Batches.{IsBatchRow, ShowsBatch, UsesHalf}
+use Rattle.facts_main.specs.Batches.{IsBatchRow, ShowsBatch}
 use Rattle.facts_main.proofs.BatchFacts.{half_used}
-
-and_true : (t : ℕ) (xs : List ℕ) → t ≡ 0 → are_zero xs ≡ true → are_zero (t ∷ xs) ≡ true
-and_true t xs e rest = ap (λ b. b && are_zero xs) (eq-eqb t 0 e) ∙ rest
+use Rattle.sound_blocks.proofs.Listed.{listed, listed_at}
 
 all_zero : (xs : List ℕ) → ((k : ℕ) → slice_index xs k ≡ 0) → are_zero xs ≡ true
 all_zero [] none = refl
-all_zero (x ∷ xs) none = and_true x xs (none 0) (all_zero xs (λ k. none (suc k)))
-
-and_false : (t : ℕ) (xs : List ℕ) → are_zero xs ≡ false → are_zero (t ∷ xs) ≡ false
-and_false t xs rest = go (eqb t 0)
-  where
-    go : (b : Bool) → b && are_zero xs ≡ false
-    go true = rest
-    go false = refl
+all_zero (x ∷ xs) none = ap (λ b. b && are_zero xs) (eq-eqb x 0 (none 0)) ∙ all_zero xs (λ k. none (suc k))
 
 not_all_zero : (xs : List ℕ) (k : ℕ) → slice_index xs k ≢ 0 → are_zero xs ≡ false
 not_all_zero [] k some = absurd (some refl)
 not_all_zero (x ∷ xs) zero some = ap (λ b. b && are_zero xs) (ne_eqb x 0 some)
-not_all_zero (x ∷ xs) (suc k) some = and_false x xs (not_all_zero xs k some)
+not_all_zero (x ∷ xs) (suc k) some = and_right (eqb x 0) (are_zero xs) (not_all_zero xs k some)
 
--- the positions that no operation uses
-zero_four : (x : List ℕ) → ShowsBatch x → positions x ≤ 4 → are_zero (drop 4 (eight x)) ≡ true
-zero_four x shows few =
-    and_true (h x 4) (h x 5 ∷ h x 6 ∷ h x 7 ∷ []) (shows.unused 4 (omega (arith, few)) (lit< tt))
-    (and_true (h x 5) (h x 6 ∷ h x 7 ∷ []) (shows.unused 5 (omega (arith, few)) (lit< tt))
-    (and_true (h x 6) (h x 7 ∷ []) (shows.unused 6 (omega (arith, few)) (lit< tt))
-    (and_true (h x 7) [] (shows.unused 7 (omega (arith, few)) (lit< tt)) refl)))
+at_place : (x : List ℕ) (q : ℕ) → q < 8 → slice_index (eight x) q ≡ h x q
+unfolding listed
+at_place x q few = listed_at (h x) 0 8 q few ∙ ap (h x) (let e : 0 + q ≡ q = omega arith in e)
 
-zero_two : (x : List ℕ) → ShowsBatch x → positions x ≤ 2 → are_zero (drop 2 (eight x)) ≡ true
-zero_two x shows few =
-    and_true (h x 2) (drop 3 (eight x)) (shows.unused 2 (omega (arith, few)) (lit< tt))
-    (and_true (h x 3) (drop 4 (eight x)) (shows.unused 3 (omega (arith, few)) (lit< tt)) (zero_four x shows (omega (arith, few))))
+-- the positions from position n on, where no operation uses them, and where one of them is not 0
+zero_from : (x : List ℕ) → ShowsBatch x → (n : ℕ) → positions x ≤ n → are_zero (drop n (eight x)) ≡ true
+zero_from x shows n few = all_zero (drop n (eight x)) (λ k. get_or-drop n (eight x) k 0 ∙ go k)
+  where
+    go : (k : ℕ) → slice_index (eight x) (n + k) ≡ 0
+    go k = elim (cases_lt (n + k) 8) [
+      | inl h ↦ at_place x (n + k) h ∙ shows.unused (n + k) (omega (arith, few)) h
+      | inr h ↦ get_or_past (eight x) (n + k) 0 h
+    ]
 
-zero_one : (x : List ℕ) → ShowsBatch x → positions x ≤ 1 → are_zero (drop 1 (eight x)) ≡ true
-zero_one x shows few = and_true (h x 1) (drop 2 (eight x)) (shows.unused 1 few (lit< tt)) (zero_two x shows (omega (arith, few)))
-
-pub at_place : (x : List ℕ) (q : ℕ) → q < 8 → slice_index (eight x) q ≡ h x q
-at_place x zero few = refl
-at_place x (suc zero) few = refl
-at_place x (suc (suc zero)) few = refl
-at_place x (suc (suc (suc zero))) few = refl
-at_place x (suc (suc (suc (suc zero)))) few = refl
-at_place x (suc (suc (suc (suc (suc zero))))) few = refl
-at_place x (suc (suc (suc (suc (suc (suc zero)))))) few = refl
-at_place x (suc (suc (suc (suc (suc (suc (suc zero))))))) few = refl
-at_place x (suc (suc (suc (suc (suc (suc (suc (suc q)))))))) few = absurd (omega (arith, few))
-
-some_one : (x : List ℕ) (q : ℕ) → 1 ≤ q → q < 8 → h x q ≢ 0 → are_zero (drop 1 (eight x)) ≡ false
-some_one x zero least few some = absurd (omega (arith, least))
-some_one x (suc q) least few some = not_all_zero (drop 1 (eight x)) q (λ e. some (sym (at_place x (suc q) few) ∙ e))
-
-some_two : (x : List ℕ) (q : ℕ) → 2 ≤ q → q < 8 → h x q ≢ 0 → are_zero (drop 2 (eight x)) ≡ false
-some_two x (suc (suc q)) least few some = not_all_zero (drop 2 (eight x)) q (λ e. some (sym (at_place x (suc (suc q)) few) ∙ e))
-some_two x q least few some = absurd (omega (arith, least))
-
-some_four : (x : List ℕ) (q : ℕ) → 4 ≤ q → q < 8 → h x q ≢ 0 → are_zero (drop 4 (eight x)) ≡ false
-some_four x (suc (suc (suc (suc q)))) least few some =
-    not_all_zero (drop 4 (eight x)) q (λ e. some (sym (at_place x (suc (suc (suc (suc q)))) few) ∙ e))
-some_four x q least few some = absurd (omega (arith, least))
+some_from : (x : List ℕ) (n q : ℕ) → n ≤ q → q < 8 → h x q ≢ 0 → are_zero (drop n (eight x)) ≡ false
+some_from x n q least few some =
+    not_all_zero (drop n (eight x)) (q - n) (λ e. some (sym (at_place x q few)
+    ∙ ap (slice_index (eight x)) (let f : q ≡ n + (q - n) = omega (arith, least) in f) ∙ sym (get_or-drop n (eight x) (q - n) 0) ∙ e))
 
 -- ---- the numbers of positions
-
-abbrev positions_by : ℕ → ℕ → ℕ → ℕ
-positions_by i j k = felt_add (felt_add (felt_add 1 (felt_mul 7 i)) (felt_mul 3 j)) k
 
 abbrev IsNumber : ℕ → Type 0
 IsNumber n = (n ≡ 1) ⊎ ((n ≡ 2) ⊎ ((n ≡ 4) ⊎ (n ≡ 8)))
 
-among : (i j k : ℕ) → i + j + k ≤ 1 → IsNumber (positions_by i j k)
+among : (i j k : ℕ) → i + j + k ≤ 1 → IsNumber (felt_add (felt_add (felt_add 1 (felt_mul 7 i)) (felt_mul 3 j)) k)
 among zero zero zero most = inl refl
 among (suc zero) zero zero most = inr (inr (inr refl))
 among zero (suc zero) zero most = inr (inr (inl refl))
 among zero zero (suc zero) most = inr (inl refl)
-among (suc (suc i)) j k most = absurd (omega (arith, most))
-among i (suc (suc j)) k most = absurd (omega (arith, most))
-among i j (suc (suc k)) most = absurd (omega (arith, most))
-among (suc zero) (suc zero) k most = absurd (omega (arith, most))
-among (suc zero) j (suc zero) most = absurd (omega (arith, most))
-among i (suc zero) (suc zero) most = absurd (omega (arith, most))
+among i j k most = absurd (omega (arith, most))
 
 is_number : (x : List ℕ) → IsBatchRow x → IsNumber (positions x)
 unfolding positions
 is_number x batch = among (c x 0) (c x 1) (c x 2) batch.most
 
-in_use_by : (x : List ℕ) → ShowsBatch x → IsNumber (positions x) → (1 < positions x → UsesHalf x) → positions_in_use (eight x) ≡ positions x
-in_use_by x shows (inl e) half = cond-true _ _ _ (zero_one x shows (omega (arith, e))) ∙ sym e
-in_use_by x shows (inr (inl e)) half =
-    let u = half (omega (arith, e)) in
-    cond-false _ _ _ (some_one x u.place (omega (arith, e)) (omega (arith, e)) u.some) ∙ cond-true _ _ _ (zero_two x shows (omega (arith, e))) ∙ sym e
-in_use_by x shows (inr (inr (inl e))) half =
-    let u = half (omega (arith, e)) in
-    cond-false _ _ _ (some_one x u.place (omega (arith, e)) (omega (arith, e)) u.some)
-    ∙ cond-false _ _ _ (some_two x u.place (omega (arith, e)) (omega (arith, e)) u.some)
-    ∙ cond-true _ _ _ (zero_four x shows (omega (arith, e))) ∙ sym e
-in_use_by x shows (inr (inr (inr e))) half =
-    let u = half (omega (arith, e)) in
-    cond-false _ _ _ (some_one x u.place (omega (arith, e)) (omega (arith, e)) u.some)
-    ∙ cond-false _ _ _ (some_two x u.place (omega (arith, e)) (omega (arith, e)) u.some)
-    ∙ cond-false _ _ _ (some_four x u.place (omega (arith, e)) (omega (arith, e)) u.some) ∙ sym e
+module _ (x : List ℕ) (shows : ShowsBatch x) where
+  -- where there are more than one, one of those of the second half is not 0
+  half_some : (n : ℕ) → 0 < n → 2 * n ≤ positions x → are_zero (drop n (eight x)) ≡ false
+  half_some n more least =
+      let u = half_used x shows (omega (arith, more, least)) in
+      some_from x n u.place (omega (arith, u.behind, least)) (omega (arith, u.within, shows.is_batch.room)) u.some
 
-pub in_use_is : (x : List ℕ) → ShowsBatch x → positions_in_use (eight x) ≡ positions x
-in_use_is x shows = in_use_by x shows (is_number x shows.is_batch) (half_used x shows)
+  in_use_by : IsNumber (positions x) → positions_in_use (eight x) ≡ positions x
+  in_use_by (inl e) = cond-true _ _ _ (zero_from x shows 1 (omega (arith, e))) ∙ sym e
+  in_use_by (inr (inl e)) =
+      cond-false _ _ _ (half_some 1 (omega arith) (omega (arith, e))) ∙ cond-true _ _ _ (zero_from x shows 2 (omega (arith, e))) ∙ sym e
+  in_use_by (inr (inr (inl e))) =
+      cond-false _ _ _ (half_some 1 (omega arith) (omega (arith, e))) ∙ cond-false _ _ _ (half_some 2 (omega arith) (omega (arith, e)))
+      ∙ cond-true _ _ _ (zero_from x shows 4 (omega (arith, e))) ∙ sym e
+  in_use_by (inr (inr (inr e))) =
+      cond-false _ _ _ (half_some 1 (omega arith) (omega (arith, e))) ∙ cond-false _ _ _ (half_some 2 (omega arith) (omega (arith, e)))
+      ∙ cond-false _ _ _ (half_some 4 (omega arith) (omega (arith, e))) ∙ sym e
+
+  pub in_use_is : positions_in_use (eight x) ≡ positions x
+  in_use_is = in_use_by (is_number x shows.is_batch)
 
 -- ---- the positions that are left
 
@@ -122,24 +86,14 @@ pub record TakesPlace (x : List ℕ) (left element : ℕ) : Type 0 where
 abbrev pub left_of : List ℕ → ℕ → List ℕ
 left_of x left = drop (positions x - left) (take (positions x) (eight x))
 
-place_of : (n g q k : ℕ) → g + q ≡ n → g ≡ suc k → n - k ≡ suc q
-place_of n g q k e f = omega (arith, e, f)
-
-front_of : (n g q : ℕ) → g + q ≡ n → n - g ≡ q
-front_of n g q e = omega (arith, e)
-
-index_is : (xs : List ℕ) (q : ℕ) → get_or xs q 0 ≡ slice_index xs q
-index_is xs q = refl
-
-pub left_more : (x : List ℕ) (left later element : ℕ) → positions x ≤ 8 → (p : TakesPlace x left element) → left ≡ suc later
+pub left_more : (x : List ℕ) (left later : ℕ) {element : ℕ} → positions x ≤ 8 → TakesPlace x left element → left ≡ suc later
     → left_of x left ≡ element ∷ left_of x later
-left_more x left later element few p e =
-    ap (λ n. drop n used) (front_of (positions x) left p.place p.left_is)
+left_more x left later few p e =
+    ap (λ n. drop n used) (let f : positions x - left ≡ p.place = omega (arith, p.left_is) in f)
     ∙ drop-cons used p.place 0 (rw (length-take-le (positions x) (eight x) few) p.in_use)
     ∙ ap₂ (λ v xs. v ∷ xs)
-    (get_or-take (positions x) (eight x) p.place 0 p.in_use ∙ index_is (eight x) p.place
-    ∙ at_place x p.place (omega (arith, few, p.in_use)) ∙ sym p.is)
-    (ap (λ n. drop n used) (sym (place_of (positions x) left p.place later p.left_is e)))
+    (get_or-take (positions x) (eight x) p.place 0 p.in_use ∙ at_place x p.place (omega (arith, few, p.in_use)) ∙ sym p.is)
+    (ap (λ n. drop n used) (let f : suc p.place ≡ positions x - later = omega (arith, p.left_is, e) in f))
   where
     used : List ℕ
     used = take (positions x) (eight x)

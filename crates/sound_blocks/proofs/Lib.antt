@@ -9,12 +9,11 @@ pub mod FirstChildren
 pub mod OtherChildren
 pub mod NestingLaw
 pub mod Tests
-pub mod ReadSteps
 pub mod DigitSteps
+pub mod ReadSteps
+pub mod Listed
 pub mod InUse
-pub mod FoundSteps
 pub mod BatchRows
-pub mod BatchSteps
 pub mod Addresses
 pub mod BatchReads
 pub mod SpanHashes

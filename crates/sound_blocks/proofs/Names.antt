@@ -1,14 +1,14 @@
 -- Which block names a child that ends, and what comes behind the child's END.
 use Rattle.sound_blocks.proofs.Words.{◌≡◌, ℕ, suc, ◌<◌, Bool, true, false, List, length, refl, sym, ap, ◌∙◌, subst, is_start_op, Op, addr, s, is_op, front}
-use Rattle.sound_blocks.proofs.Words.{back, called_digest, Claim, keeps_block, may_follow, row_at, ShowsRows, op_in, BlockFacts, Closes, IsAt, Starts, own}
-use Rattle.sound_blocks.proofs.Words.{ChildFacts, IsNamed, IsTurnOf, IsOnlyChild, TurnsAgain}
-use Rattle.vm_ops.specs.declared.op.Op.TheVariants as ops
+use Rattle.sound_blocks.proofs.Words.{back, Claim, keeps_block, may_follow, row_at, ShowsRows, op_in, BlockFacts, Closes, IsAt, Starts, own, never, ChildFacts}
+use Rattle.sound_blocks.proofs.Words.{IsNamed, IsOnlyChild, TurnsAgain}
+use Rattle.sound_blocks.proofs.Words.ops
 use Rattle.sound_blocks.proofs.Operations.{BehindEnd, behind_end}
 use Rattle.sound_blocks.proofs.OpenBlocks.{no_zero}
 use Rattle.sound_blocks.proofs.Rows.{has_next, starts_at}
 
-pub starts_by : (rows : List (List ℕ)) (j : ℕ) (op : Op) → is_start_op op ≡ true → IsAt rows j op → Starts rows j
-starts_by rows j op is here = record { within = here.within; is = ap is_start_op here.is ∙ is }
+pub starts_by : {rows : List (List ℕ)} {j : ℕ} (op : Op) → is_start_op op ≡ true → IsAt rows j op → Starts rows j
+starts_by op is here = record { within = here.within; is = ap is_start_op here.is ∙ is }
 
 -- a child of this digest is named by the block that starts in row j, and whether another one starts behind it
 pub data NamedBy (rows : List (List ℕ)) (j : ℕ) (digest : List ℕ) : Bool → Type 0 where
@@ -17,133 +17,107 @@ pub data NamedBy (rows : List (List ℕ)) (j : ℕ) (digest : List ℕ) : Bool �
   only : IsOnlyChild rows j digest → NamedBy rows j digest false
   body : op_in rows j ≡ ops.Loop → digest ≡ front (row_at rows j) → NamedBy rows j digest false
 
+-- a child is named by the statement, or by the block of this address
+data Namer (rows : List (List ℕ)) (root : List ℕ) (parent : ℕ) (digest : List ℕ) : Bool → Type 0 where
+  statement : parent ≡ 0 → digest ≡ root → Namer rows root parent digest false
+  block : {more : Bool} (i : ℕ) → Starts rows i → own rows i ≡ parent → NamedBy rows i digest more → Namer rows root parent digest more
+
 -- what the row behind the child's END is
 pub data Next (rows : List (List ℕ)) (j e : ℕ) : Type 0 where
   start : Starts rows (suc e) → Next rows j e
   end : Closes rows j (suc e) → Next rows j e
   turn : op_in rows j ≡ ops.Loop → TurnsAgain rows j (suc e) → Next rows j e
 
-module _ (k : Claim) (rows : List (List ℕ)) (root : List ℕ) (shows : ShowsRows k rows) (blocks : BlockFacts rows)
-    (children : ChildFacts rows root) where
+-- what is known of the rows
+pub record Known (k : Claim) (rows : List (List ℕ)) (root : List ℕ) : Type 0 where
+  pub shows : ShowsRows k rows
+  pub blocks : BlockFacts rows
+  pub children : ChildFacts rows root
+
+module _ {k : Claim} {rows : List (List ℕ)} {root : List ℕ} (known : Known k rows root) where
   -- the block of an address
-  pub same_block : (i j address : ℕ) → Starts rows i → Starts rows j → own rows i ≡ address → own rows j ≡ address → i ≡ j
-  same_block i j address starts_i starts_j own_i own_j = blocks.one i j starts_i starts_j (own_i ∙ sym own_j)
+  pub same_block : {i j address : ℕ} → Starts rows i → Starts rows j → own rows i ≡ address → own rows j ≡ address → i ≡ j
+  same_block {i} {j} starts_i starts_j own_i own_j = known.blocks.one i j starts_i starts_j (own_i ∙ sym own_j)
 
-  outside : {A : Type 0} (j address : ℕ) → Starts rows j → own rows j ≡ address → address ≡ 0 → A
-  outside j address starts own_is zero_is = no_zero (own rows j) (blocks.positive j starts) (own_is ∙ zero_is)
-
-  op_same : (i j : ℕ) (op : Op) → i ≡ j → IsAt rows i op → op_in rows j ≡ op
-  op_same i j op same here = subst (λ (m : ℕ). op_in rows m ≡ op) same here.is
-
-  cells_same : (i j : ℕ) (digest : List ℕ) (part : List ℕ → List ℕ) → i ≡ j → digest ≡ part (row_at rows i) → digest ≡ part (row_at rows j)
-  cells_same i j digest part same is = is ∙ ap (λ (m : ℕ). part (row_at rows m)) same
-
-  top_same : (i j top : ℕ) → i ≡ j → s (row_at rows i) 0 ≡ top → s (row_at rows j) 0 ≡ top
-  top_same i j top same is = subst (λ (m : ℕ). s (row_at rows m) 0 ≡ top) same is
+  -- no block has this one
+  pub outside : {A : Type 0} {j address : ℕ} → Starts rows j → own rows j ≡ address → address ≡ 0 → A
+  outside {j = j} starts own_is zero_is = no_zero (own rows j) (known.blocks.positive j starts) (own_is ∙ zero_is)
 
   -- the loop of a turn
-  pub turned : (r j : ℕ) → Starts rows j → addr (row_at rows r) ≡ own rows j → (i : ℕ) × IsTurnOf rows r i
+  pub turned : {r j : ℕ} → Starts rows j → addr (row_at rows r) ≡ own rows j → IsAt rows r ops.Repeat
       → (op_in rows j ≡ ops.Loop) × (front (row_at rows r) ≡ front (row_at rows j))
-  turned r j starts inside (i, of_loop) =
-      let same = same_block i j (own rows j) (starts_by rows i ops.Loop refl of_loop.is_loop) starts (of_loop.own_is ∙ inside) refl in
-      (op_same i j ops.Loop same of_loop.is_loop, cells_same i j (front (row_at rows r)) front same (sym of_loop.body))
+  turned {r} {j} starts inside at =
+      let turn = known.children.turn r at in
+      let same = same_block (starts_by ops.Loop refl turn.1.is_loop) starts (turn.1.own_is ∙ inside) refl in
+      (ap (op_in rows) (sym same) ∙ turn.1.is_loop.is, sym turn.1.body ∙ ap (λ m. front (row_at rows m)) same)
 
-  pub named_by : (j parent : ℕ) (digest : List ℕ) (more : Bool) → Starts rows j → own rows j ≡ parent → IsNamed rows root parent digest more
+  namer : {parent : ℕ} {digest : List ℕ} {more : Bool} → IsNamed rows root parent digest more → Namer rows root parent digest more
+  namer (IsNamed.statement zero_is digest_is) = Namer.statement zero_is digest_is
+  namer (IsNamed.first i at own_is is) = Namer.block i (starts_by ops.Join refl at) own_is (NamedBy.first at.is is)
+  namer (IsNamed.second i at own_is is) = Namer.block i (starts_by ops.Join refl at) own_is (NamedBy.second at.is is)
+  namer (IsNamed.on_one i at top own_is is) = Namer.block i (starts_by ops.Split refl at) own_is (NamedBy.only (IsOnlyChild.on_one at.is top is))
+  namer (IsNamed.on_zero i at top own_is is) = Namer.block i (starts_by ops.Split refl at) own_is (NamedBy.only (IsOnlyChild.on_zero at.is top is))
+  namer (IsNamed.body i at top own_is is) = Namer.block i (starts_by ops.Loop refl at) own_is (NamedBy.body at.is is)
+  namer (IsNamed.callee i at own_is is) = Namer.block i (starts_by ops.Call refl at) own_is (NamedBy.only (IsOnlyChild.callee at.is is))
+  namer (IsNamed.kernel i at own_is is) = Namer.block i (starts_by ops.Syscall refl at) own_is (NamedBy.only (IsOnlyChild.kernel at.is is))
+  namer (IsNamed.target i at own_is is) = Namer.block i (starts_by ops.Dyn refl at) own_is (NamedBy.only (IsOnlyChild.target at.is is))
+  namer (IsNamed.turn r at inside is) =
+      let turn = known.children.turn r at in
+      Namer.block turn.0 (starts_by ops.Loop refl turn.1.is_loop) (turn.1.own_is ∙ inside) (NamedBy.body turn.1.is_loop.is (is ∙ sym turn.1.body))
+
+  named_by : {j parent : ℕ} {digest : List ℕ} {more : Bool} → Starts rows j → own rows j ≡ parent → Namer rows root parent digest more
       → NamedBy rows j digest more
-  named_by j parent digest more starts is (IsNamed.statement zero_is digest_is) = outside j parent starts is zero_is
-  named_by j parent digest more starts is (IsNamed.first i here own_is digest_is) =
-      let same = same_block i j parent (starts_by rows i ops.Join refl here) starts own_is is in
-      NamedBy.first (op_same i j ops.Join same here) (cells_same i j digest front same digest_is)
-  named_by j parent digest more starts is (IsNamed.second i here own_is digest_is) =
-      let same = same_block i j parent (starts_by rows i ops.Join refl here) starts own_is is in
-      NamedBy.second (op_same i j ops.Join same here) (cells_same i j digest back same digest_is)
-  named_by j parent digest more starts is (IsNamed.on_one i here top own_is digest_is) =
-      let same = same_block i j parent (starts_by rows i ops.Split refl here) starts own_is is in
-      NamedBy.only (IsOnlyChild.on_one (op_same i j ops.Split same here) (top_same i j 1 same top) (cells_same i j digest front same digest_is))
-  named_by j parent digest more starts is (IsNamed.on_zero i here top own_is digest_is) =
-      let same = same_block i j parent (starts_by rows i ops.Split refl here) starts own_is is in
-      NamedBy.only (IsOnlyChild.on_zero (op_same i j ops.Split same here) (top_same i j 0 same top) (cells_same i j digest back same digest_is))
-  named_by j parent digest more starts is (IsNamed.body i here top own_is digest_is) =
-      let same = same_block i j parent (starts_by rows i ops.Loop refl here) starts own_is is in
-      NamedBy.body (op_same i j ops.Loop same here) (cells_same i j digest front same digest_is)
-  named_by j parent digest more starts is (IsNamed.callee i here own_is digest_is) =
-      let same = same_block i j parent (starts_by rows i ops.Call refl here) starts own_is is in
-      NamedBy.only (IsOnlyChild.callee (op_same i j ops.Call same here) (cells_same i j digest front same digest_is))
-  named_by j parent digest more starts is (IsNamed.kernel i here own_is digest_is) =
-      let same = same_block i j parent (starts_by rows i ops.Syscall refl here) starts own_is is in
-      NamedBy.only (IsOnlyChild.kernel (op_same i j ops.Syscall same here) (cells_same i j digest front same digest_is))
-  named_by j parent digest more starts is (IsNamed.target i here own_is digest_is) =
-      let same = same_block i j parent (starts_by rows i ops.Dyn refl here) starts own_is is in
-      NamedBy.only (IsOnlyChild.target (op_same i j ops.Dyn same here) (cells_same i j digest called_digest same digest_is))
-  named_by j parent digest more starts is (IsNamed.turn r here inside digest_is) =
-      let of_loop = turned r j starts (inside ∙ sym is) (children.turn r here) in NamedBy.body of_loop.0 (digest_is ∙ of_loop.1)
+  named_by starts is (Namer.statement zero_is digest_is) = outside starts is zero_is
+  named_by {digest = digest} {more = more} starts is (Namer.block i others own_is by) =
+      subst (λ (m : ℕ). NamedBy rows m digest more) (same_block others starts own_is is) by
 
   -- the statement alone names a child of no block
-  pub root_named : (parent : ℕ) (digest : List ℕ) (more : Bool) → parent ≡ 0 → IsNamed rows root parent digest more → (digest ≡ root) × (more ≡ false)
-  root_named parent digest more none (IsNamed.statement zero_is digest_is) = (digest_is, refl)
-  root_named parent digest more none (IsNamed.first i here own_is digest_is) = outside i parent (starts_by rows i ops.Join refl here) own_is none
-  root_named parent digest more none (IsNamed.second i here own_is digest_is) = outside i parent (starts_by rows i ops.Join refl here) own_is none
-  root_named parent digest more none (IsNamed.on_one i here top own_is digest_is) =
-      outside i parent (starts_by rows i ops.Split refl here) own_is none
-  root_named parent digest more none (IsNamed.on_zero i here top own_is digest_is) =
-      outside i parent (starts_by rows i ops.Split refl here) own_is none
-  root_named parent digest more none (IsNamed.body i here top own_is digest_is) = outside i parent (starts_by rows i ops.Loop refl here) own_is none
-  root_named parent digest more none (IsNamed.callee i here own_is digest_is) = outside i parent (starts_by rows i ops.Call refl here) own_is none
-  root_named parent digest more none (IsNamed.kernel i here own_is digest_is) = outside i parent (starts_by rows i ops.Syscall refl here) own_is none
-  root_named parent digest more none (IsNamed.target i here own_is digest_is) = outside i parent (starts_by rows i ops.Dyn refl here) own_is none
-  root_named parent digest more none (IsNamed.turn r here inside digest_is) = go (children.turn r here)
-    where
-      go : (i : ℕ) × IsTurnOf rows r i → (digest ≡ root) × (more ≡ false)
-      go (i, of_loop) = outside i parent (starts_by rows i ops.Loop refl of_loop.is_loop) (of_loop.own_is ∙ inside) none
+  by_statement : {parent : ℕ} {digest : List ℕ} {more : Bool} → parent ≡ 0 → Namer rows root parent digest more → (digest ≡ root) × (more ≡ false)
+  by_statement none (Namer.statement zero_is digest_is) = (digest_is, refl)
+  by_statement none (Namer.block i starts own_is by) = outside starts own_is none
+
+  pub root_named : {e : ℕ} → IsAt rows e ops.End → addr (row_at rows (suc e)) ≡ 0
+      → (front (row_at rows e) ≡ root) × (is_start_op (op_in rows (suc e)) ≡ false)
+  root_named {e} here none = by_statement none (namer (known.children.child e here))
 
   -- ---- the row behind
 
-  pub follows_at : (i : ℕ) (op : Op) → IsAt rows i op → may_follow op (s (row_at rows i) 0) (op_in rows (suc i)) ≡ true
-  follows_at i op here =
-      subst (λ (o : Op). may_follow o (s (row_at rows i) 0) (op_in rows (suc i)) ≡ true) here.is (shows.pair_is i here.within).pair.follows
+  pub follows_at : {i : ℕ} (op : Op) → IsAt rows i op → may_follow op (s (row_at rows i) 0) (op_in rows (suc i)) ≡ true
+  follows_at {i} op here =
+      subst (λ (o : Op). may_follow o (s (row_at rows i) 0) (op_in rows (suc i)) ≡ true) here.is (known.shows.pair_is i here.within).pair.follows
 
-  pub keeps_at : (i : ℕ) (op : Op) → keeps_block op ≡ true → IsAt rows i op → addr (row_at rows (suc i)) ≡ addr (row_at rows i)
-  keeps_at i op keeps here = (shows.pair_is i here.within).pair.block.block (ap keeps_block here.is ∙ keeps)
+  pub keeps_at : {i : ℕ} (op : Op) → keeps_block op ≡ true → IsAt rows i op → addr (row_at rows (suc i)) ≡ addr (row_at rows i)
+  keeps_at {i} op keeps here = (known.shows.pair_is i here.within).pair.block.block (ap keeps_block here.is ∙ keeps)
 
   -- the END in row e is that of the block whose address the row has
-  pub ends_own : (j e : ℕ) → Starts rows j → IsAt rows e ops.End → addr (row_at rows e) ≡ own rows j → Closes rows j e
-  ends_own j e starts here inside = go (blocks.block e here)
-    where
-      go : (q : ℕ) × Closes rows q e → Closes rows j e
-      go (q, closes) =
-          subst (λ (m : ℕ). Closes rows m e) (same_block q j (own rows j) closes.starts starts (closes.own_is ∙ inside) refl) closes
+  pub ends_own : {j e : ℕ} → Starts rows j → IsAt rows e ops.End → addr (row_at rows e) ≡ own rows j → Closes rows j e
+  ends_own {j} {e} starts here inside =
+      let found = known.blocks.block e here in
+      subst (λ (m : ℕ). Closes rows m e) (same_block found.1.starts starts (found.1.own_is ∙ inside) refl) found.1
 
-  pub op_at_next : (i : ℕ) (op : Op) → i < length rows → is_op op ops.Halt ≡ false → op_in rows i ≡ op → IsAt rows i op
-  op_at_next i op within goes_on is =
-      record { within = has_next k rows shows i within (λ halts. let halt = ap (λ o. is_op o ops.Halt) is in let none : ⊥ = cc in none); is = is }
+  pub op_at_next : {i : ℕ} (op : Op) → i < length rows → is_op op ops.Halt ≡ false → op_in rows i ≡ op → IsAt rows i op
+  op_at_next {i} op within goes_on is =
+      record { within = has_next known.shows i within (λ halts. never (sym halts ∙ ap (λ o. is_op o ops.Halt) is ∙ goes_on)); is = is }
 
-  turns_again : (j r : ℕ) → Starts rows j → IsAt rows r ops.Repeat → addr (row_at rows r) ≡ own rows j → front (row_at rows r) ≡ front (row_at rows j)
-      → TurnsAgain rows j r
-  turns_again j r starts here inside same_body = record {
-    repeats = here;
-    body = same_body;
-    starts = starts_at k rows shows (suc r) here.within (follows_at r ops.Repeat here);
-    inside = keeps_at r ops.Repeat refl here ∙ inside;
-  }
+  next_by : {j e : ℕ} → Starts rows j → IsAt rows e ops.End → addr (row_at rows (suc e)) ≡ own rows j → BehindEnd (op_in rows (suc e)) → Next rows j e
+  next_by {e = e} starts here inside (BehindEnd.start is) = Next.start (starts_at known.shows (suc e) here.within is)
+  next_by starts here inside (BehindEnd.end is) = Next.end (ends_own starts (op_at_next ops.End here.within refl is) inside)
+  next_by {e = e} starts here inside (BehindEnd.repeat is) =
+      let again = op_at_next ops.Repeat here.within refl is in
+      let loop = turned starts inside again in
+      Next.turn loop.0 (record {
+        repeats = again;
+        body = loop.1;
+        starts = starts_at known.shows (suc (suc e)) again.within (follows_at ops.Repeat again);
+        inside = keeps_at ops.Repeat refl again ∙ inside;
+      })
+  next_by {e = e} starts here inside (BehindEnd.halt is) =
+      outside starts (sym inside) ((known.shows.row_is (suc e) here.within).row.block.closed (ap (λ o. is_op o ops.Halt) is))
 
-  next_by : (j e : ℕ) → Starts rows j → IsAt rows e ops.End → addr (row_at rows (suc e)) ≡ own rows j → BehindEnd (op_in rows (suc e)) → Next rows j e
-  next_by j e starts here inside (BehindEnd.start is) = Next.start (starts_at k rows shows (suc e) here.within is)
-  next_by j e starts here inside (BehindEnd.end is) =
-      Next.end (ends_own j (suc e) starts (op_at_next (suc e) ops.End here.within refl is) inside)
-  next_by j e starts here inside (BehindEnd.repeat is) =
-      let again = op_at_next (suc e) ops.Repeat here.within refl is in
-      let of_loop = turned (suc e) j starts inside (children.turn (suc e) again) in
-      Next.turn of_loop.0 (turns_again j (suc e) starts again inside of_loop.1)
-  next_by j e starts here inside (BehindEnd.halt is) =
-      outside j (addr (row_at rows (suc e))) starts (sym inside)
-      ((shows.row_is (suc e) here.within).row.block.closed (ap (λ o. is_op o ops.Halt) is))
-
-  pub next_of : (j e : ℕ) → Starts rows j → IsAt rows e ops.End → addr (row_at rows (suc e)) ≡ own rows j → Next rows j e
-  next_of j e starts here inside =
-      next_by j e starts here inside (behind_end (op_in rows (suc e)) (s (row_at rows e) 0) (follows_at e ops.End here))
+  pub next_of : {j e : ℕ} → Starts rows j → IsAt rows e ops.End → addr (row_at rows (suc e)) ≡ own rows j → Next rows j e
+  next_of {e = e} starts here inside = next_by starts here inside (behind_end (op_in rows (suc e)) (s (row_at rows e) 0) (follows_at ops.End here))
 
   -- and which child has ended
-  pub child_of : (j e : ℕ) → Starts rows j → IsAt rows e ops.End → addr (row_at rows (suc e)) ≡ own rows j
+  pub child_of : {j e : ℕ} → Starts rows j → IsAt rows e ops.End → addr (row_at rows (suc e)) ≡ own rows j
       → NamedBy rows j (front (row_at rows e)) (is_start_op (op_in rows (suc e)))
-  child_of j e starts here inside =
-      named_by j (addr (row_at rows (suc e))) (front (row_at rows e)) (is_start_op (op_in rows (suc e))) starts (sym inside) (children.child e here)
+  child_of {e = e} starts here inside = named_by starts (sym inside) (namer (known.children.child e here))

@@ -1,22 +1,13 @@
 -- What the tests of operations say, and which operation stands before a start.
-use Rattle.sound_blocks.proofs.Words.{◌≡◌, ◌⊎◌, ℕ, Bool, true, false, ◌||◌, not, eqb, refl, ◌∙◌, inl, inr, arith, code_of, is_ordinary_op, is_start_op, Op}
-use Rattle.sound_blocks.proofs.Words.{code_of-different, is_op, may_follow, never, off}
-use Rattle.vm_ops.specs.declared.op.Op.TheVariants as ops
-
-same_code : (a b : ℕ) → eqb a b ≡ true → a ≡ b
-same_code a b is = grind arith
+use Rattle.sound_blocks.proofs.Words.{◌≡◌, ◌⊎◌, inl, inr, ℕ, Bool, true, false, ◌||◌, refl, sym, ap, ◌∙◌, cases_Bool, or_cases, or_from, or_left}
+use Rattle.sound_blocks.proofs.Words.{not_from_false, is_ordinary_op, is_right, is_start_op, Op, is_op, keeps_block, may_follow, off, op_from}
+use Rattle.sound_blocks.proofs.Words.ops
 
 pub op_named : (op other : Op) → is_op op other ≡ true → op ≡ other
-op_named op other is = code_of-different op other (same_code (code_of op) (code_of other) is)
-
--- one of two tests, and one of four
-pub either : (t u : Bool) → t || u ≡ true → (t ≡ true) ⊎ (u ≡ true)
-either true u is = inl refl
-either false u is = inr is
+op_named op other is = op_from is
 
 pub true_or_false : (t : Bool) → (t ≡ true) ⊎ (t ≡ false)
-true_or_false true = inl refl
-true_or_false false = inr refl
+true_or_false t = cases_Bool t
 
 -- what comes behind the END of a block
 pub data BehindEnd (next : Op) : Type 0 where
@@ -25,17 +16,26 @@ pub data BehindEnd (next : Op) : Type 0 where
   repeat : next ≡ ops.Repeat → BehindEnd next
   halt : next ≡ ops.Halt → BehindEnd next
 
-one_of_four : (next : Op) (s e r h : Bool) → is_start_op next ≡ s → is_op next ops.End ≡ e → is_op next ops.Repeat ≡ r → is_op next ops.Halt ≡ h
-    → s || e || r || h ≡ true → BehindEnd next
-one_of_four next true e r h is_s is_e is_r is_h one = start is_s
-one_of_four next false true r h is_s is_e is_r is_h one = end (op_named next ops.End is_e)
-one_of_four next false false true h is_s is_e is_r is_h one = repeat (op_named next ops.Repeat is_r)
-one_of_four next false false false h is_s is_e is_r is_h one = halt (op_named next ops.Halt (is_h ∙ one))
-
 pub behind_end : (next : Op) (top : ℕ) → may_follow ops.End top next ≡ true → BehindEnd next
-behind_end next top follows =
-    one_of_four next (is_start_op next) (is_op next ops.End) (is_op next ops.Repeat) (is_op next ops.Halt) refl refl refl refl
-    follows
+behind_end next top follows = elim (or_cases _ (is_op next ops.Halt) follows) [
+  | inl three ↦ elim (or_cases _ (is_op next ops.Repeat) three) [
+    | inl two ↦ elim (or_cases (is_start_op next) (is_op next ops.End) two) [ inl s ↦ start s | inr e ↦ end (op_from e) ]
+    | inr r ↦ repeat (op_from r)
+  ]
+  | inr h ↦ halt (op_from h)
+]
+
+-- what an operation is not that starts a block
+pub start_apart : (op : Op) → is_start_op op ≡ true
+    → (is_ordinary_op op || is_op op ops.End || is_op op ops.Respan ≡ false) × (is_right op ≡ false) × (is_op op ops.Halt ≡ false)
+start_apart ops.Join is = (refl, refl, refl)
+start_apart ops.Split is = (refl, refl, refl)
+start_apart ops.Loop is = (refl, refl, refl)
+start_apart ops.Span is = (refl, refl, refl)
+start_apart ops.Call is = (refl, refl, refl)
+start_apart ops.Syscall is = (refl, refl, refl)
+start_apart ops.Dyn is = (refl, refl, refl)
+start_apart op is = off is
 
 -- what stands before a start
 pub data BeforeStart (op : Op) : Type 0 where
@@ -43,19 +43,11 @@ pub data BeforeStart (op : Op) : Type 0 where
   end : op ≡ ops.End → BeforeStart op
   repeat : op ≡ ops.Repeat → BeforeStart op
 
-no_operation : {A : Type 0} (next : Op) → is_start_op next ≡ true → is_ordinary_op next || is_op next ops.End || is_op next ops.Respan ≡ true → A
-no_operation ops.Join starts other = off other
-no_operation ops.Split starts other = off other
-no_operation ops.Loop starts other = off other
-no_operation ops.Span starts other = off other
-no_operation ops.Call starts other = off other
-no_operation ops.Syscall starts other = off other
-no_operation ops.Dyn starts other = off other
-no_operation next starts other = off starts
-
 first_of_three : (t u v : Bool) → t ≡ true → t || u || v ≡ true
-first_of_three true u v is = refl
-first_of_three false u v is = off is
+first_of_three t u v is = or_left _ v (or_left t u is)
+
+no_operation : {A : Type 0} (next : Op) → is_start_op next ≡ true → is_ordinary_op next || is_op next ops.End || is_op next ops.Respan ≡ true → A
+no_operation next starts other = off (sym (start_apart next starts).0 ∙ other)
 
 pub before_start : (op next : Op) (top : ℕ) → is_start_op next ≡ true → may_follow op top next ≡ true → BeforeStart op
 before_start ops.Join next top starts follows = start refl
@@ -68,8 +60,7 @@ before_start ops.Dyn next top starts follows = start refl
 before_start ops.End next top starts follows = end refl
 before_start ops.Repeat next top starts follows = repeat refl
 before_start ops.Halt next top starts follows = off follows
-before_start ops.Respan next top starts follows =
-    no_operation next starts (first_of_three (is_ordinary_op next) (is_op next ops.End) (is_op next ops.Respan) follows)
+before_start ops.Respan next top starts follows = no_operation next starts (first_of_three (is_ordinary_op next) _ _ follows)
 before_start op next top starts follows = no_operation next starts follows
 
 -- an operation starts a block, or ends one, or keeps the newest block open
@@ -78,20 +69,20 @@ pub data Moves (op : Op) : Type 0 where
   end : op ≡ ops.End → Moves op
   keep : is_start_op op ≡ false → is_op op ops.End ≡ false → Moves op
 
-moves_by : (op : Op) (s e : Bool) → is_start_op op ≡ s → is_op op ops.End ≡ e → Moves op
-moves_by op true e is_s is_e = start is_s
-moves_by op false true is_s is_e = end (op_named op ops.End is_e)
-moves_by op false false is_s is_e = keep is_s is_e
-
 pub moves_of : (op : Op) → Moves op
-moves_of op = moves_by op (is_start_op op) (is_op op ops.End) refl refl
+moves_of op = elim (cases_Bool (is_start_op op)) [
+  | inl is ↦ start is
+  | inr no_start ↦ elim (cases_Bool (is_op op ops.End)) [ inl is ↦ end (op_from is) | inr no_end ↦ keep no_start no_end ]
+]
 
-pub neither_is : (t u : Bool) → t ≡ false → u ≡ false → not (t || u) ≡ true
-neither_is true u a b = never a
-neither_is false true a b = never b
-neither_is false false a b = refl
+pub neither_is : (op : Op) → is_start_op op ≡ false → is_op op ops.End ≡ false → keeps_block op ≡ true
+neither_is op a b = not_from_false _ (or_from (is_start_op op) (is_op op ops.End) a b)
 
-pub start_no_halt : {A : Type 0} (op : Op) → is_start_op op ≡ true → is_op op ops.Halt ≡ true → A
-start_no_halt ops.Halt starts is = off starts
-start_no_halt ops.Join starts is = off is
-start_no_halt op starts is = off is
+-- an ordinary operation starts no block and ends none
+pub ordinary_keeps : (op : Op) → is_ordinary_op op ≡ true → keeps_block op ≡ true
+ordinary_keeps op ordinary = by (moves_of op)
+  where
+    by : Moves op → keeps_block op ≡ true
+    by (Moves.start is) = no_operation op is (first_of_three (is_ordinary_op op) _ _ ordinary)
+    by (Moves.end is) = off (sym (ap is_ordinary_op is) ∙ ordinary)
+    by (Moves.keep no_start no_end) = neither_is op no_start no_end

@@ -1,13 +1,12 @@
 -- The batches of a span, one behind the other, and its END.
-use Rattle.sound_blocks.proofs.Words.{◌≡◌, inl, inr, lit<, ℕ, zero, suc, ◌+◌, ◌%◌, ◌<◌, ◌≤◌, List, [], ◌∷◌, length, sym, ap, ◌∙◌, arith, ◌⊞◌, addr, h, ha}
-use Rattle.sound_blocks.proofs.Words.{is_op, eight, front, hash_end, is_batch_op, Claim, GivesOn, keeps_block, row_at, ShowsRows, Begins, GroupFacts}
-use Rattle.sound_blocks.proofs.Words.{batch_at, BlockFacts, IsAt, HashFacts, hasher_gives, AreBatches, last}
-use Rattle.vm_ops.specs.declared.op.Op.TheVariants as ops
+use Rattle.sound_blocks.proofs.Words.{◌≡◌, inl, inr, lit<, ℕ, zero, suc, ◌+◌, ◌%◌, ◌≤◌, List, [], ◌∷◌, length, sym, ap, ◌∙◌, arith, or_cases, ◌⊞◌, addr, h, ha}
+use Rattle.sound_blocks.proofs.Words.{is_op, eight, front, hash_end, is_batch_op, Claim, GivesOn, keeps_block, row_at, ShowsRows, Begins, GroupFacts, batch_at}
+use Rattle.sound_blocks.proofs.Words.{BlockFacts, IsAt, HashFacts, hasher_gives, AreBatches, last, op_from}
+use Rattle.sound_blocks.proofs.Words.ops
 use Rattle.sound_blocks.specs.Spans.{more}
-use Rattle.sound_blocks.proofs.Tests.{op_same, either_passes}
 use Rattle.sound_blocks.proofs.Addresses.{address_of_block, last_row, next_block}
 use Rattle.sound_blocks.proofs.BatchReads.{HasBatch, has_batch}
-use Rattle.sound_blocks.proofs.SpanHashes.{gives_at, gives_digest, gives_block, end_of_span}
+use Rattle.sound_blocks.proofs.SpanHashes.{gives_at, gives_digest, gives_block}
 
 -- what is known of the tables
 pub record Known (constants : List ℕ) (hasher rows : List (List ℕ)) : Type 0 where
@@ -26,73 +25,58 @@ pub record HasBatches (hasher rows : List (List ℕ)) (i : ℕ) : Type 0 where
   pub inside : addr (row_at rows end) ≡ addr (row_at rows (suc i))
   pub given : h (row_at rows end) 5 ≡ 1 → GivesOn (hasher_gives hasher) (batch_at rows i) later (front (row_at rows end))
 
-fuel_left : (n i r l : ℕ) → l ≤ suc n + i → i < r → l ≤ n + r
-fuel_left n i r l few h = omega (arith, few, h)
+module _ {constants : List ℕ} {hasher rows : List (List ℕ)} (known : Known constants hasher rows) where
+  respan_address : {r : ℕ} → IsAt rows r ops.Respan → batch_at rows r ≡ ha (row_at rows r) ⊞ 8
+  respan_address {r} at = (known.shows.pair_is r at.within).pair.batch.later (ap (λ o. is_op o ops.Respan) at.is)
 
-none_left : (i l : ℕ) → l ≤ 0 + i → suc i < l → ⊥
-none_left i l few h = omega (arith, few, h)
+  respan_block : {r : ℕ} → IsAt rows r ops.Respan → batch_at rows r % 8 ≡ 1
+  respan_block {r} at =
+      ap (λ n. n % 8) (respan_address at)
+      ∙ address_of_block hasher 2 (ha (row_at rows r) ⊞ 8) (eight (row_at rows r)) (lit< tt) (known.hashes.goes_on r at)
 
-begins_at : (rows : List (List ℕ)) (r : ℕ) → IsAt rows r ops.Respan → Begins rows r
-begins_at rows r at = record { within = at.within; is = ap is_batch_op at.is }
+  module _ {i : ℕ} (begins : Begins rows i) (address : batch_at rows i % 8 ≡ 1) (b : HasBatch rows i) where
+    -- the last batch
+    last_batch : IsAt rows b.end ops.End → HasBatches hasher rows i
+    last_batch at = record {
+      end = b.end;
+      later = [];
+      are = last i b.end b.is at;
+      ends = at;
+      inside = b.is.inside;
+      given = λ flag. gives_digest hasher (batch_at rows i) (front (row_at rows b.end)) (end flag) (known.hashes.ends b.end at);
+    }
+      where
+        end : h (row_at rows b.end) 5 ≡ 1 → hash_end (row_at rows b.end) ≡ batch_at rows i + 7
+        end flag =
+            rw flag (ap (λ n. n ⊞ 7) b.is.hashed ∙ last_row (batch_at rows i) ((known.shows.row_is (suc i) begins.within).reads.low 49) address)
 
--- the last batch
-last_batch : {constants : List ℕ} {hasher rows : List (List ℕ)} → Known constants hasher rows → (i : ℕ) → Begins rows i → batch_at rows i % 8 ≡ 1
-    → (b : HasBatch rows i) → IsAt rows b.end ops.End → HasBatches hasher rows i
-last_batch {hasher = hasher} {rows = rows} known i begins address b at = record {
-  end = b.end;
-  later = [];
-  are = last i b.end b.is at;
-  ends = at;
-  inside = b.is.inside;
-  given = λ flag. gives_digest hasher (batch_at rows i) (front (row_at rows b.end))
-      (gives_at hasher 3 _ _ (front (row_at rows b.end)) (end flag) (known.hashes.ends b.end at));
-}
-  where
-    end : h (row_at rows b.end) 5 ≡ 1 → hash_end (row_at rows b.end) ≡ batch_at rows i + 7
-    end flag =
-        end_of_span (row_at rows b.end) flag ∙ ap (λ n. n ⊞ 7) b.is.hashed
-        ∙ last_row (batch_at rows i) ((known.shows.row_is (suc i) begins.within).reads.low 49) address
+    -- a batch with another one behind it
+    more_batches : IsAt rows b.end ops.Respan → HasBatches hasher rows b.end → HasBatches hasher rows i
+    more_batches at l = record {
+      end = l.end;
+      later = eight (row_at rows b.end) ∷ l.later;
+      are = more i b.end l.end (eight (row_at rows b.end) ∷ l.later) b.is at l.are;
+      ends = l.ends;
+      inside = l.inside ∙ (known.shows.pair_is b.end at.within).pair.block.block (ap keeps_block at.is) ∙ b.is.inside;
+      given = λ flag. gives_block hasher (batch_at rows i) (batch_at rows b.end) (eight (row_at rows b.end)) l.later (front (row_at rows l.end)) next
+          (gives_at hasher 2 (eight (row_at rows b.end)) (sym (respan_address at)) (known.hashes.goes_on b.end at)) (l.given flag);
+    }
+      where
+        from : batch_at rows b.end ≡ batch_at rows i ⊞ 8
+        from = respan_address at ∙ ap (λ n. n ⊞ 8) b.is.hashed
 
-respan_address : {constants : List ℕ} {hasher rows : List (List ℕ)} → Known constants hasher rows → (r : ℕ) → IsAt rows r ops.Respan
-    → batch_at rows r ≡ ha (row_at rows r) ⊞ 8
-respan_address {rows = rows} known r at =
-    (known.shows.pair_is r at.within).pair.batch.later (ap (λ o. is_op o ops.Respan) at.is)
+        next : batch_at rows b.end ≡ batch_at rows i + 8
+        next =
+            from ∙ next_block (batch_at rows i) ((known.shows.row_is (suc i) begins.within).reads.low 49) address
+            (ap (λ n. n % 8) (sym from) ∙ respan_block at)
 
-respan_block : {constants : List ℕ} {hasher rows : List (List ℕ)} → Known constants hasher rows → (r : ℕ) → IsAt rows r ops.Respan
-    → batch_at rows r % 8 ≡ 1
-respan_block {hasher = hasher} {rows = rows} known r at =
-    ap (λ n. n % 8) (respan_address known r at)
-    ∙ address_of_block hasher 2 (ha (row_at rows r) ⊞ 8) (eight (row_at rows r)) (lit< tt) (known.hashes.goes_on r at)
-
--- a batch with another one behind it
-more_batches : {constants : List ℕ} {hasher rows : List (List ℕ)} → Known constants hasher rows → (i : ℕ) → Begins rows i → batch_at rows i % 8 ≡ 1
-    → (b : HasBatch rows i) → IsAt rows b.end ops.Respan → HasBatches hasher rows b.end → HasBatches hasher rows i
-more_batches {hasher = hasher} {rows = rows} known i begins address b at l = record {
-  end = l.end;
-  later = eight (row_at rows b.end) ∷ l.later;
-  are = more i b.end l.end (eight (row_at rows b.end) ∷ l.later) b.is at l.are;
-  ends = l.ends;
-  inside = l.inside ∙ (known.shows.pair_is b.end at.within).pair.block.block (ap keeps_block at.is) ∙ b.is.inside;
-  given = λ flag. gives_block hasher (batch_at rows i) (batch_at rows b.end) (eight (row_at rows b.end)) l.later (front (row_at rows l.end)) next
-      (gives_at hasher 2 _ _ (eight (row_at rows b.end)) (sym (respan_address known b.end at)) (known.hashes.goes_on b.end at)) (l.given flag);
-}
-  where
-    from : batch_at rows b.end ≡ batch_at rows i ⊞ 8
-    from = respan_address known b.end at ∙ ap (λ n. n ⊞ 8) b.is.hashed
-
-    next : batch_at rows b.end ≡ batch_at rows i + 8
-    next =
-        from ∙ next_block (batch_at rows i) ((known.shows.row_is (suc i) begins.within).reads.low 49) address
-        (ap (λ n. n % 8) (sym from) ∙ respan_block known b.end at)
-
-pub batches : {constants : List ℕ} {hasher rows : List (List ℕ)} → Known constants hasher rows → (n i : ℕ) → length rows ≤ n + i → Begins rows i
-    → batch_at rows i % 8 ≡ 1 → HasBatches hasher rows i
-batches {rows = rows} known zero i few begins address = absurd (none_left i (length rows) few begins.within)
-batches {rows = rows} known (suc n) i few begins address =
-    let b = has_batch known.claim rows known.shows known.groups i begins in
-    let fewer : length rows ≤ n + b.end = fuel_left n i b.end (length rows) few b.behind in
-    elim (either_passes _ _ b.stops) [
-      | inl is ↦ last_batch known i begins address b (record { within = b.within; is = op_same _ ops.End is })
-      | inr is ↦ let at : IsAt rows b.end ops.Respan = record { within = b.within; is = op_same _ ops.Respan is } in
-          more_batches known i begins address b at (batches known n b.end fewer (begins_at rows b.end at) (respan_block known b.end at))
-    ]
+  pub batches : (n i : ℕ) → length rows ≤ n + i → Begins rows i → batch_at rows i % 8 ≡ 1 → HasBatches hasher rows i
+  batches zero i few begins address = absurd (omega (arith, few, begins.within))
+  batches (suc n) i few begins address =
+      let b = has_batch known.claim rows known.shows known.groups i begins in
+      elim (or_cases _ _ b.stops) [
+        | inl is ↦ last_batch begins address b (record { within = b.within; is = op_from is })
+        | inr is ↦ let at : IsAt rows b.end ops.Respan = record { within = b.within; is = op_from is } in
+            more_batches begins address b at
+            (batches n b.end (omega (arith, few, b.behind)) (record { within = at.within; is = ap is_batch_op at.is }) (respan_block at))
+      ]

@@ -1,13 +1,18 @@
 -- How often a tuple counts over the rows of a table, where a row's tuples need the row behind it.
-use Rattle.sound_buses.proofs.Words.{◌≡◌, ◌≢◌, ℕ, suc, ◌<◌, ◌≤◌, ◌⊎◌, inl, inr, List, [], ◌∷◌, length, Some, None, ap, ◌∙◌, arith, slice_get-get_or}
-use Rattle.sound_buses.proofs.Words.{slice_get_past, slice_get, Counted, at_row, counted, once, over_first, over_rows, with_next, counted-none, row_at}
-use Rattle.sound_buses.proofs.Splits.{same_or}
-use Rattle.sound_buses.proofs.Sums.{SomeBelow, total_apart, total_none, total_one, total_some, total_term}
-use Rattle.sound_buses.proofs.Tuples.{single_self}
+use Rattle.sound_buses.proofs.Words.{◌≡◌, ℕ, suc, ◌<◌, ◌≤◌, inl, inr, List, [], ◌∷◌, length, subst, sym, ap, arith, slice_get-get_or, slice_get_past, Counted}
+use Rattle.sound_buses.proofs.Words.{at_row, counted, once, over_first, over_rows, with_next, row_at}
+use Rattle.std.proofs.lemmas.Bool.{cases_eq, cases_lt}
+use Rattle.sound_buses.proofs.Splits.{zero_or}
+use Rattle.sound_buses.proofs.Sums.{total_apart, total_one, total_some, total_term}
+use Rattle.sound_buses.proofs.Tuples.{counts_first, nothing_counts}
 
 -- the tuples of row i and the row behind it
 abbrev pub PairTuples : Type 0
 PairTuples = List ℕ → List ℕ → List Counted
+
+-- so often the rows of a table count a tuple
+abbrev pub in_rows : PairTuples → List (List ℕ) → List ℕ → ℕ
+in_rows tuples rows u = over_rows (with_next tuples) rows u
 
 abbrev pub count_in : PairTuples → List (List ℕ) → List ℕ → ℕ → ℕ
 count_in tuples rows u i = counted (tuples (row_at rows i) (row_at rows (suc i))) u
@@ -17,101 +22,93 @@ pub record IsInRow (tuples : PairTuples) (rows : List (List ℕ)) (u : List ℕ)
   pub within : suc i < length rows
   pub positive : 0 < count_in tuples rows u i
 
-behind_at : (rows : List (List ℕ)) (i : ℕ) → suc i < length rows → slice_get rows (suc i) ≡ Some (row_at rows (suc i))
-behind_at rows i h = slice_get-get_or rows (suc i) [] h
+module _ (tuples : PairTuples) (rows : List (List ℕ)) (u : List ℕ) where
+  abbrev count_at : ℕ → ℕ
+  count_at i = counted (at_row (with_next tuples) rows i) u
 
-none_behind : (rows : List (List ℕ)) (i : ℕ) → length rows ≤ suc i → slice_get rows (suc i) ≡ None
-none_behind rows i e = slice_get_past rows (suc i) (omega (arith, e))
+  row_counts : (i : ℕ) → suc i < length rows → count_at i ≡ count_in tuples rows u i
+  row_counts i h = ap (λ next. counted (with_next tuples i (row_at rows i) next) u) (slice_get-get_or rows (suc i) [] h)
 
-pub row_counts : (tuples : PairTuples) (rows : List (List ℕ)) (u : List ℕ) (i : ℕ) → suc i < length rows
-    → counted (at_row (with_next tuples) rows i) u ≡ count_in tuples rows u i
-row_counts tuples rows u i h = ap (λ next. counted (with_next tuples i (row_at rows i) next) u) (behind_at rows i h)
+  -- a row in which a tuple counts has a row behind it
+  in_row : (i : ℕ) → 0 < count_at i → IsInRow tuples rows u i
+  in_row i h = elim (cases_lt (suc i) (length rows)) [
+    | inl more ↦ record { within = more; positive = omega (arith, row_counts i more) }
+    | inr last ↦ nothing_counts u
+        (subst (λ next. 0 < counted (with_next tuples i (row_at rows i) next) u) (slice_get_past rows (suc i) last) h)
+  ]
 
-last_counts : (tuples : PairTuples) (rows : List (List ℕ)) (u : List ℕ) (i : ℕ) → length rows ≤ suc i
-    → counted (at_row (with_next tuples) rows i) u ≡ 0
-last_counts tuples rows u i h = ap (λ next. counted (with_next tuples i (row_at rows i) next) u) (none_behind rows i h) ∙ counted-none u
+  -- at most one row, at most once
+  pub rows_one : ((i : ℕ) → suc i < length rows → count_in tuples rows u i ≤ 1)
+      → ((i j : ℕ) → IsInRow tuples rows u i → IsInRow tuples rows u j → i ≡ j) → in_rows tuples rows u ≤ 1
+  unfolding over_first
+  rows_one few one = total_one (length rows) count_at (λ i h. go i) (λ i j hi hj p q. one i j (in_row i p) (in_row j q))
+    where
+      go : (i : ℕ) → count_at i ≤ 1
+      go i = elim (zero_or (count_at i)) [
+        | inl some ↦ let within = (in_row i some).within in omega (arith, row_counts i within, few i within)
+        | inr none ↦ omega arith
+      ]
 
-within_or : (n i : ℕ) → (suc i < n) ⊎ (n ≤ suc i)
-within_or n i = grind arith
+module _ {tuples : PairTuples} {rows : List (List ℕ)} {u : List ℕ} where
+  pub rows_some : 0 < in_rows tuples rows u → (i : ℕ) × IsInRow tuples rows u i
+  unfolding over_first
+  rows_some h = let s = total_some (length rows) (count_at tuples rows u) h in (s.0, in_row tuples rows u s.0 s.2)
 
--- a row in which a tuple counts has a row behind it
-pub in_row : (tuples : PairTuples) (rows : List (List ℕ)) (u : List ℕ) (i : ℕ) → 0 < counted (at_row (with_next tuples) rows i) u
-    → IsInRow tuples rows u i
-in_row tuples rows u i h = go (within_or (length rows) i)
-  where
-    go : (suc i < length rows) ⊎ (length rows ≤ suc i) → IsInRow tuples rows u i
-    go (inl more) = record { within = more; positive = (let e = row_counts tuples rows u i more in omega (arith, e, h)) }
-    go (inr last) = let e = last_counts tuples rows u i last in absurd (omega (arith, e, h))
+  pub rows_have : {i : ℕ} → IsInRow tuples rows u i → 0 < in_rows tuples rows u
+  unfolding over_first
+  rows_have {i} here =
+      omega (
+        arith,
+        here.within,
+        here.positive,
+        total_term (length rows) (count_at tuples rows u) i (omega (arith, here.within)),
+        row_counts tuples rows u i here.within,
+      )
 
-pub rows_some : (tuples : PairTuples) (rows : List (List ℕ)) (u : List ℕ) → 0 < over_rows (with_next tuples) rows u
-    → (i : ℕ) × IsInRow tuples rows u i
-unfolding over_first
-rows_some tuples rows u h =
-    let s : SomeBelow (length rows) (λ i. counted (at_row (with_next tuples) rows i) u) =
-    total_some (length rows) (λ i. counted (at_row (with_next tuples) rows i) u) h in
-    (s.at, in_row tuples rows u s.at s.positive)
+  -- a row whose tuples are these
+  pub row_in : {i : ℕ} (cs : List Counted) → suc i < length rows → tuples (row_at rows i) (row_at rows (suc i)) ≡ cs → 0 < counted cs u
+      → IsInRow tuples rows u i
+  row_in cs within e some = record { within = within; positive = subst (λ cs. 0 < counted cs u) (sym e) some }
 
-pub rows_have : (tuples : PairTuples) (rows : List (List ℕ)) (u : List ℕ) (i : ℕ) → IsInRow tuples rows u i → 0 < over_rows (with_next tuples) rows u
-unfolding over_first
-rows_have tuples rows u i here =
-    let within = here.within in
-    let positive = here.positive in
-    let le = total_term (length rows) (λ i. counted (at_row (with_next tuples) rows i) u) i (omega (arith, within)) in
-    let e = row_counts tuples rows u i within in omega (arith, le, e, positive)
+  pub row_has : {i : ℕ} (others : List Counted) → suc i < length rows → tuples (row_at rows i) (row_at rows (suc i)) ≡ once u ∷ others
+      → IsInRow tuples rows u i
+  row_has others within e = row_in (once u ∷ others) within e (counts_first u others)
 
--- a row whose one tuple it is
-pub row_has : (tuples : PairTuples) (rows : List (List ℕ)) (u : List ℕ) (i : ℕ) → suc i < length rows
-    → tuples (row_at rows i) (row_at rows (suc i)) ≡ once u ∷ [] → IsInRow tuples rows u i
-row_has tuples rows u i within e = record {
-  within = within;
-  positive = (let k : count_in tuples rows u i ≡ 1 = ap (λ cs. counted cs u) e ∙ single_self u in omega (arith, k));
-}
+  -- a tuple that counts once in all counts in one row alone
+  pub rows_same : {i j : ℕ} → in_rows tuples rows u ≤ 1 → IsInRow tuples rows u i → IsInRow tuples rows u j → i ≡ j
+  unfolding over_first
+  rows_same {i} {j} few here there = elim (cases_eq i j) [
+    | inl e ↦ e
+    | inr apart ↦ absurd
+        (omega (
+          arith,
+          few,
+          here.within,
+          there.within,
+          here.positive,
+          there.positive,
+          row_counts tuples rows u i here.within,
+          row_counts tuples rows u j there.within,
+          total_apart (length rows) (count_at tuples rows u) i j (omega (arith, here.within)) (omega (arith, there.within)) apart,
+        ))
+  ]
 
--- two rows
-pub rows_two : (tuples : PairTuples) (rows : List (List ℕ)) (u : List ℕ) (i j : ℕ) → IsInRow tuples rows u i → IsInRow tuples rows u j → i ≢ j
-    → 2 ≤ over_rows (with_next tuples) rows u
-unfolding over_first
-rows_two tuples rows u i j here there apart =
-    let within = here.within in
-    let positive = here.positive in
-    let inside = there.within in
-    let some = there.positive in
-    let le =
-    total_apart (length rows) (λ i. counted (at_row (with_next tuples) rows i) u) i j (omega (arith, within))
-    (omega (arith, inside)) apart in
-    let e = row_counts tuples rows u i within in
-    let k = row_counts tuples rows u j inside in omega (arith, le, e, k, positive, some)
+-- as often is given as is asked
+abbrev pub Balanced : PairTuples → PairTuples → List (List ℕ) → Type 0
+Balanced asked given rows = (u : List ℕ) → in_rows asked rows u ≡ in_rows given rows u
 
--- a tuple that counts once in all counts in one row alone
-pub rows_same : (tuples : PairTuples) (rows : List (List ℕ)) (u : List ℕ) (i j : ℕ) → over_rows (with_next tuples) rows u ≤ 1
-    → IsInRow tuples rows u i → IsInRow tuples rows u j → i ≡ j
-rows_same tuples rows u i j few here there = go (same_or i j)
-  where
-    go : (i ≡ j) ⊎ (i ≢ j) → i ≡ j
-    go (inl e) = e
-    go (inr apart) = let two = rows_two tuples rows u i j here there apart in absurd (omega (arith, two, few))
+-- what a row asks is given, and by a row where rows alone give
+pub is_given : {asked : PairTuples} {given : List ℕ → ℕ} {rows : List (List ℕ)} {u : List ℕ} {i : ℕ} → ((v : List ℕ) → in_rows asked rows v ≡ given v)
+    → IsInRow asked rows u i → 0 < given u
+is_given {u = u} alike at = omega (arith, rows_have at, alike u)
 
--- at most one row, at most once
-pub rows_one : (tuples : PairTuples) (rows : List (List ℕ)) (u : List ℕ) → ((i : ℕ) → suc i < length rows → count_in tuples rows u i ≤ 1)
-    → ((i j : ℕ) → IsInRow tuples rows u i → IsInRow tuples rows u j → i ≡ j) → over_rows (with_next tuples) rows u ≤ 1
-unfolding over_first
-rows_one tuples rows u few one =
-    total_one (length rows) (λ i. counted (at_row (with_next tuples) rows i) u) (λ i h. go i (within_or (length rows) i))
-    (λ i j hi hj p q. one i j (in_row tuples rows u i p) (in_row tuples rows u j q))
-  where
-    go : (i : ℕ) → (suc i < length rows) ⊎ (length rows ≤ suc i) → counted (at_row (with_next tuples) rows i) u ≤ 1
-    go i (inl more) = let e = row_counts tuples rows u i more in let le = few i more in omega (arith, e, le)
-    go i (inr last) = let e = last_counts tuples rows u i last in omega (arith, e)
+pub giver : {asked given : PairTuples} {rows : List (List ℕ)} {u : List ℕ} {i : ℕ} → Balanced asked given rows → IsInRow asked rows u i
+    → (j : ℕ) × IsInRow given rows u j
+giver {given = given} {rows = rows} alike at = rows_some (is_given {given = in_rows given rows} alike at)
 
 -- no tuples at all
-pub rows_none : (rows : List (List ℕ)) (u : List ℕ) → over_rows (λ i x next. []) rows u ≡ 0
-unfolding over_first
-rows_none rows u = total_none (length rows) (λ i. counted [] u) (λ i h. counted-none u)
-
-pub pairs_none : (rows : List (List ℕ)) (u : List ℕ) → over_rows (with_next (λ x y. [])) rows u ≡ 0
-unfolding over_first
-pairs_none rows u = total_none (length rows) (λ i. counted (at_row (with_next (λ x y. [])) rows i) u) (λ i h. go i (within_or (length rows) i))
-  where
-    go : (i : ℕ) → (suc i < length rows) ⊎ (length rows ≤ suc i) → counted (at_row (with_next (λ x y. [])) rows i) u ≡ 0
-    go i (inl more) = row_counts (λ x y. []) rows u i more ∙ counted-none u
-    go i (inr last) = last_counts (λ x y. []) rows u i last
+pub pairs_none : (rows : List (List ℕ)) (u : List ℕ) → in_rows (λ x y. []) rows u ≡ 0
+pairs_none rows u = elim (zero_or (in_rows (λ x y. []) rows u)) [
+  | inl some ↦ let found : (i : ℕ) × IsInRow (λ x y. []) rows u i = rows_some some in nothing_counts u found.1.positive
+  | inr none ↦ none
+]

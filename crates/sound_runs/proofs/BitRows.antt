@@ -1,6 +1,6 @@
 -- What the rows of bitwise operations look up.
 use Rattle.sound_runs.proofs.Words.{◌≡◌, ℕ, suc, ◌<◌, List, length, refl, Op, s, Claim, row_at, op_in, off, LooksUpBits}
-use Rattle.vm_ops.specs.declared.op.Op.TheVariants as ops
+use Rattle.sound_runs.proofs.Words.ops
 use Rattle.facts_bitwise.specs.BitTables.{IsBitwise}
 use Rattle.sound_runs.proofs.Premises.{Known}
 

@@ -1,7 +1,7 @@
 -- The laws of cycles and of ends.
-use Rattle.sound_runs.proofs.Words.{◌≡◌, ℕ, suc, ◌-◌, cond, eqb, List, length, refl, ap, ◌∙◌, number_of_constants, is_call_op, Claim, claim_of, Mark, cycle}
-use Rattle.sound_runs.proofs.Words.{frames_granted, Goes, ShowRun, ShowsMark, GrantedEnds}
-use Rattle.vm_ops.specs.declared.op.Op.TheVariants as ops
+use Rattle.sound_runs.proofs.Words.{◌≡◌, ℕ, ◌-◌, arith, cond, eqb, List, length, ap, ◌∙◌, number_of_constants, is_call_op, Claim, claim_of, Mark}
+use Rattle.sound_runs.proofs.Words.{frames_granted, ShowRun, ShowsMark, GrantedEnds}
+use Rattle.sound_runs.proofs.Words.ops
 use Rattle.rpo_hash.specs.Constants.{constants_of}
 use Rattle.air_kit.specs.declared.trace.Public.{Public}
 use Rattle.air_kit.specs.declared.trace.TableName.TheVariants as table
@@ -13,8 +13,9 @@ use Rattle.sound_runs.specs.Cycles.{GrantedCycles}
 use Rattle.sound_runs.proofs.CallRows.{call_end_goes, call_goes, syscall_end_goes, syscall_goes}
 use Rattle.sound_runs.proofs.EndRows.{end_goes, flag_of, loop_end_goes, span_end_goes}
 use Rattle.sound_runs.proofs.FirstAndLast.{end_facts}
+use Rattle.sound_runs.proofs.Going.{GoesOn}
 use Rattle.sound_runs.proofs.OperationRows.{operation_goes}
-use Rattle.sound_runs.proofs.Premises.{Known, below_limit, clock_at, low_contexts, state_in}
+use Rattle.sound_runs.proofs.Premises.{Known, clock_at, low_contexts, state_in}
 use Rattle.sound_runs.proofs.StartRows.{dyn_goes, join_goes, loop_goes, span_goes, split_goes}
 use Rattle.sound_runs.proofs.StateRows.{top_at, word_at}
 use Rattle.sound_runs.proofs.TurnRows.{repeat_goes, respan_goes}
@@ -37,27 +38,26 @@ known_of p t count granted = record {
 }
 
 module _ {constants : List ℕ} {kernel rows : List (List ℕ)} {k : Claim} (known : Known constants kernel k rows) where
-  row_goes : (i : ℕ) (mark : Mark) → ShowsMark rows (state_in k rows) i mark
-      → Goes (state_in k rows) (cycle constants kernel (length rows - 1) mark (state_in k rows i)) (suc i)
-  row_goes i mark (span at) = span_goes known i at
-  row_goes i mark (join at) = join_goes known i at
-  row_goes i mark (split at) = split_goes known i at
-  row_goes i mark (loop at) = loop_goes known i at
-  row_goes i mark (call at) = call_goes known i at
-  row_goes i mark (syscall at) = syscall_goes known i at
-  row_goes i mark (dyn at) = dyn_goes known i at
-  row_goes i mark (respan at) = respan_goes known i at
-  row_goes i mark (repeat at) = repeat_goes known i at
+  row_goes : (i : ℕ) (mark : Mark) → ShowsMark rows (state_in k rows) i mark → GoesOn known i mark
+  row_goes i mark (span at) = span_goes known at
+  row_goes i mark (join at) = join_goes known at
+  row_goes i mark (split at) = split_goes known at
+  row_goes i mark (loop at) = loop_goes known at
+  row_goes i mark (call at) = call_goes known at
+  row_goes i mark (syscall at) = syscall_goes known at
+  row_goes i mark (dyn at) = dyn_goes known at
+  row_goes i mark (respan at) = respan_goes known at
+  row_goes i mark (repeat at) = repeat_goes known at
   row_goes i mark (operation within is) = operation_goes known i within is
-  row_goes i mark (span_end {j = j} at closes) = span_end_goes known j i at closes
-  row_goes i mark (join_end {j = j} at closes) = end_goes known j i closes (ap is_call_op at.is) (flag_of rows j i ops.Join at closes)
-  row_goes i mark (split_end {j = j} at closes) = end_goes known j i closes (ap is_call_op at.is) (flag_of rows j i ops.Split at closes)
-  row_goes i mark (skipped_end {j = j} at top closes) =
-      end_goes known j i closes (ap is_call_op at.is) (flag_of rows j i ops.Loop at closes ∙ ap (λ n. cond (eqb n 1) 1 0) top)
-  row_goes i mark (dyn_end {j = j} at closes) = end_goes known j i closes (ap is_call_op at.is) (flag_of rows j i ops.Dyn at closes)
-  row_goes i mark (entered_end {j = j} at top closes) = loop_end_goes known j i at top closes
-  row_goes i mark (call_end {j = j} at closes) = call_end_goes known j i at closes
-  row_goes i mark (syscall_end {j = j} at closes) = syscall_end_goes known j i at closes
+  row_goes i mark (span_end at closes) = span_end_goes known at closes
+  row_goes i mark (join_end at closes) = end_goes known closes (ap is_call_op at.is) (flag_of ops.Join at closes)
+  row_goes i mark (split_end at closes) = end_goes known closes (ap is_call_op at.is) (flag_of ops.Split at closes)
+  row_goes i mark (skipped_end at top closes) =
+      end_goes known closes (ap is_call_op at.is) (flag_of ops.Loop at closes ∙ ap (λ n. cond (eqb n 1) 1 0) top)
+  row_goes i mark (dyn_end at closes) = end_goes known closes (ap is_call_op at.is) (flag_of ops.Dyn at closes)
+  row_goes i mark (entered_end at top closes) = loop_end_goes known at top closes
+  row_goes i mark (call_end at closes) = call_end_goes known at closes
+  row_goes i mark (syscall_end at closes) = syscall_end_goes known at closes
 
   show_run : ShowRun constants kernel (length rows - 1) rows (state_in k rows)
   show_run = record {
@@ -65,7 +65,7 @@ module _ {constants : List ℕ} {kernel rows : List (List ℕ)} {k : Claim} (kno
     top_is = λ i h. top_at k rows i;
     word_is = λ i h. word_at k rows i;
     clock = λ i h. clock_at known i h;
-    below = λ i within. below_limit i i (length rows) refl within;
+    below = λ i within. omega (arith, within);
   }
 
 pub cycles_law : GrantedCycles

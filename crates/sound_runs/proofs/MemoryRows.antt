@@ -1,12 +1,12 @@
 -- What rows look up in memory as the rows before them leave it, which is made of words.
-use Rattle.sound_runs.proofs.Words.{◌≡◌, ℕ, zero, suc, ◌<◌, List, [], length, slice_index, Some, refl, sym, prime, word-of, Op, ctx, s, t, deep_at_start}
+use Rattle.sound_runs.proofs.Words.{◌≡◌, ℕ, zero, suc, ◌<◌, List, [], length, arith, slice_index, Some, refl, sym, prime, word-of, Op, ctx, s, t, deep_at_start}
 use Rattle.sound_runs.proofs.Words.{Claim, elsewhere_at, memory_at, memory_behind, written_by, ServesRow, access_by, row_at, op_in, off, LooksUpWord}
 use Rattle.std.proofs.lemmas.Option.{slice_get-get_or}
 use Rattle.vm_field.specs.Machine.{IsWord, WordMap, word_at}
 use Rattle.vm_field.proofs.Places.{words-empty, words-insert}
-use Rattle.vm_ops.specs.declared.op.Op.TheVariants as ops
+use Rattle.sound_runs.proofs.Words.ops
 use Rattle.air_kit.specs.declared.requests.Access.{Access}
-use Rattle.sound_runs.proofs.Premises.{Known, before}
+use Rattle.sound_runs.proofs.Premises.{Known}
 
 -- ---- what is looked up
 
@@ -56,5 +56,5 @@ module _ {constants : List ℕ} {kernel rows : List (List ℕ)} {k : Claim} (kno
   unfolding memory_at
   words_at zero h = words-empty
   words_at (suc i) h =
-      stays_words (op_in rows i) (row_at rows i) (memory_at rows i) (known.shows.row_is i (before i (length rows) h)).reads.low
-      (words_at i (before i (length rows) h))
+      stays_words (op_in rows i) (row_at rows i) (memory_at rows i) (known.shows.row_is i (omega (arith, h))).reads.low
+      (words_at i (omega (arith, h)))

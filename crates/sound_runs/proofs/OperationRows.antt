@@ -1,31 +1,25 @@
 -- The rows of ordinary operations.
-use Rattle.sound_runs.proofs.Words.{◌≡◌, ◌≢◌, ℕ, suc, ◌+◌, ◌-◌, ◌<◌, ◌≤◌, ◌^◌, true, List, [], ◌∷◌, length, slice_index, ap, sym, ◌∙◌, arith, is_ordinary_op}
-use Rattle.sound_runs.proofs.Words.{clk, depth, s, deep_at_start, depth_at_start, is_left, Claim, elsewhere_at, Do, cycle, event_of, taking-ok, row_at, op_in}
-use Rattle.sound_runs.proofs.Words.{shifts_left_is, below_at, Lookups, place_shows, Goes, item_at}
+use Rattle.sound_runs.proofs.Words.{◌≡◌, ◌≢◌, ℕ, suc, ◌-◌, ◌<◌, true, List, [], ◌∷◌, length, slice_index, ap, sym, ◌∙◌, arith, is_ordinary_op, depth, s}
+use Rattle.sound_runs.proofs.Words.{deep_at_start, is_left, Claim, elsewhere_at, Do, event_of, taking-ok, row_at, op_in, shifts_left_is, below_at, Lookups}
+use Rattle.sound_runs.proofs.Words.{place_shows, item_at}
 use Rattle.vm_ops.specs.Step.{act}
 use Rattle.vm_ops.specs.Values.{advice_of}
-use Rattle.vm_ops.specs.declared.op.Op.TheVariants as ops
+use Rattle.sound_runs.proofs.Words.ops
 use Rattle.sound_blocks.proofs.Operations.{op_named}
 use Rattle.facts_steps.specs.Joined.{IsRowOf}
 use Rattle.facts_steps.specs.Showing.{IsPlace}
 use Rattle.facts_steps.proofs.Ordinary.{mover_is, ordinary}
 use Rattle.sound_runs.proofs.BitRows.{bits_at}
+use Rattle.sound_runs.proofs.Going.{GoesOn, early_at}
 use Rattle.sound_runs.proofs.MemoryRows.{word_looked_up, words_at}
-use Rattle.sound_runs.proofs.Premises.{Known, before, clock_at, state_in}
-use Rattle.sound_runs.proofs.StartRows.{early_at}
-
-early_clock : (c i l : ℕ) → c ≡ i → i < l → l ≤ 2 ^ 19 → c < 2 ^ 19
-early_clock c i l e h few = omega (arith, e, h, few)
-
-shallow_stack : (d s i l : ℕ) → d ≤ s + i → s ≤ 2 ^ 19 → i < l → l ≤ 2 ^ 19 → d < 2 ^ 20
-shallow_stack d s i l most start h few = omega (arith, most, start, h, few)
+use Rattle.sound_runs.proofs.Premises.{Known, clock_at, state_in}
 
 module _ {constants : List ℕ} {kernel rows : List (List ℕ)} {k : Claim} (known : Known constants kernel k rows) where
   row_of_at : (i : ℕ) → i < length rows → IsRowOf (row_at rows i) (elsewhere_at (deep_at_start k) rows i)
   row_of_at i h = record {
-    early = early_clock (clk (row_at rows i)) i (length rows) (clock_at known i h) h known.few;
+    early = omega (arith, clock_at known i h, h, known.few);
     depth_is = known.lists.depth_is i h;
-    shallow = shallow_stack (depth (row_at rows i)) (depth_at_start k) i (length rows) (known.lists.bounded i h) known.shallow h known.few;
+    shallow = omega (arith, known.lists.bounded i h, known.shallow, h, known.few);
     words = words_at known i h;
   }
 
@@ -50,13 +44,13 @@ module _ {constants : List ℕ} {kernel rows : List (List ℕ)} {k : Claim} (kno
   place_at i within is = record {
     within = within;
     ordinary = is;
-    here = row_of_at i (before i (length rows) within);
+    here = row_of_at i (omega (arith, within));
     finds = finds_at i within is;
     looks = looks_at i within;
   }
 
   pub operation_goes : (i : ℕ) → suc i < length rows → is_ordinary_op (op_in rows i) ≡ true
-      → Goes (state_in k rows) (cycle constants kernel (length rows - 1) (Do (item_at rows i)) (state_in k rows i)) (suc i)
+      → GoesOn known i (Do (item_at rows i))
   operation_goes i within is = record {
     events = event_of (Do (item_at rows i)) (advice_of (op_in rows i)) (state_in k rows i) ∷ [];
     done =

@@ -1,8 +1,9 @@
 -- What the row of a block leaves as it is: memory, the tape and, unless it calls or ends a call, the function that runs.
-use Rattle.sound_runs.proofs.Words.{◌≡◌, ℕ, suc, ◌<◌, Bool, true, false, ◌||◌, not, List, [], ◌∷◌, ◌++◌, drop, None, refl, ap, sym, ◌∙◌, lit<, Op, fmp, ctx}
-use Rattle.sound_runs.proofs.Words.{sys, f, is_op, is_right, is_call_op, memory_at, memory_behind, taken_by, tape_of, written_by, function_digest, KeepsBlock}
-use Rattle.sound_runs.proofs.Words.{ends_call, row_at, tape_goes, IsAt}
-use Rattle.vm_ops.specs.declared.op.Op.TheVariants as ops
+use Rattle.sound_runs.proofs.Words.{◌≡◌, ℕ, suc, ◌<◌, false, List, [], ◌∷◌, ◌++◌, drop, None, ap, sym, ◌∙◌, lit<, Op, fmp, ctx, sys, f, is_op, is_right}
+use Rattle.sound_runs.proofs.Words.{is_call_op, memory_at, memory_behind, taken_by, tape_of, written_by, function_digest, KeepsBlock, ends_call, row_at}
+use Rattle.sound_runs.proofs.Words.{tape_goes, IsAt}
+use Rattle.std.proofs.lemmas.Bool.{not_from_false, or_from, or_parts}
+use Rattle.sound_runs.proofs.Words.ops
 
 -- an operation that takes nothing from the tape and writes nothing, and neither pushes a cell nor moves the frame pointer
 pub record IsQuiet (m : Op) : Type 0 where
@@ -34,27 +35,14 @@ pub digest_same : (x y : List ℕ) → ((j : ℕ) → j < 4 → f y j ≡ f x j)
 unfolding function_digest
 digest_same x y e = λ i. sym (e 0 (lit< tt)) i ∷ sym (e 1 (lit< tt)) i ∷ sym (e 2 (lit< tt)) i ∷ sym (e 3 (lit< tt)) i ∷ []
 
-neither_of : (t u : Bool) → t ≡ false → u ≡ false → not (t || u) ≡ true
-neither_of t u a b = rw (a, b) refl
-
-none_of : (t u v : Bool) → t ≡ false → u ≡ false → v ≡ false → not (t || u || v) ≡ true
-none_of t u v a b c = rw (a, b, c) refl
-
-call_tests : (t u : Bool) → t || u ≡ false → t ≡ false
-call_tests true u e = e
-call_tests false u e = refl
-
 pub same_function : (op : Op) (x y : List ℕ) → KeepsBlock op x y → is_call_op op ≡ false → ends_call op x ≡ false → is_op op ops.FmpUpdate ≡ false
     → IsSameFunction x y
 same_function op x y keeps no_call no_return no_update = record {
   context = sym stays.0;
-  frame = sym (keeps.frame (none_of (is_call_op op) (ends_call op x) (is_op op ops.FmpUpdate) no_call no_return no_update));
+  frame = sym (keeps.frame (not_from_false _ (or_from _ _ (or_from (is_call_op op) (ends_call op x) no_call no_return) no_update)));
   syscall = sym stays.1;
-  digest =
-      digest_same x y
-      (keeps.digest
-      (neither_of (is_op op ops.Call) (ends_call op x) (call_tests (is_op op ops.Call) (is_op op ops.Syscall) no_call) no_return));
+  digest = digest_same x y (keeps.digest (not_from_false _ (or_from _ _ (or_parts (is_op op ops.Call) (is_op op ops.Syscall) no_call).0 no_return)));
 }
   where
     stays : (ctx y ≡ ctx x) × (sys y ≡ sys x)
-    stays = keeps.function (neither_of (is_call_op op) (ends_call op x) no_call no_return)
+    stays = keeps.function (not_from_false _ (or_from (is_call_op op) (ends_call op x) no_call no_return))

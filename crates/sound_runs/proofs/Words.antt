@@ -1,6 +1,6 @@
 -- The words that the proofs of this crate have in common.
-pub use Rattle.std.proofs.Common.{Bool, List, None, Some, [], ap, ap₂, arith, cond, drop, eqb, false, inl, inr, length, length-drop, lit<, lit≤, max, not}
-pub use Rattle.std.proofs.Common.{refl, slice_index, subst, suc, sym, take, true, zero, ℕ, ◌&&◌, ◌++◌, ◌+◌, ◌-◌, ◌<◌, ◌^◌, ◌||◌, ◌∙◌, ◌∷◌, ◌≡◌, ◌≢◌, ◌≤◌, ◌⊎◌}
+pub use Rattle.std.proofs.Common.{Bool, List, None, Some, [], ap, ap₂, arith, cond, drop, eqb, false, inl, inr, length, length-drop, lit<, lit≤, max, refl}
+pub use Rattle.std.proofs.Common.{slice_index, subst, suc, sym, take, true, zero, ℕ, ◌&&◌, ◌++◌, ◌+◌, ◌-◌, ◌<◌, ◌^◌, ◌||◌, ◌∙◌, ◌∷◌, ◌≡◌, ◌≢◌, ◌≤◌}
 pub use Rattle.air_kit.specs.DeepCells.{deep_at_start, depth_at_start}
 pub use Rattle.air_kit.specs.Flags.{is_left, is_op, is_right}
 pub use Rattle.air_kit.specs.Hashes.{computation_at}
@@ -28,7 +28,7 @@ pub use Rattle.sound_blocks.proofs.FrameLaw.{frames_granted}
 pub use Rattle.sound_blocks.specs.Frames.{FrameFacts, open_at}
 pub use Rattle.sound_blocks.specs.Items.{AreItems, item_at}
 pub use Rattle.sound_blocks.specs.Lists.{OverflowLists, below_at}
-pub use Rattle.sound_blocks.specs.Spans.{AreBatches, HasBatchRows, IsHashedAt}
+pub use Rattle.sound_blocks.specs.Spans.{AreBatches, HasBatchRows}
 pub use Rattle.sound_buses.specs.Batches.{Begins, GroupFacts}
 pub use Rattle.sound_buses.specs.Blocks.{Closes, IsAt, Starts, own}
 pub use Rattle.sound_runs.specs.Built.{Built, Turns}
@@ -39,10 +39,11 @@ pub use Rattle.vm_field.proofs.Elements.{length-filled_up, word-of}
 pub use Rattle.vm_field.specs.Field.{prime}
 pub use Rattle.vm_field.specs.Limits.{number_of_constants}
 pub use Rattle.vm_field.specs.Machine.{State, filled_up}
-pub use Rattle.vm_ops.proofs.FrameLemmas.{filled_up-deep, index-filled_up}
+pub use Rattle.vm_ops.proofs.FrameLemmas.{index-filled_up}
 pub use Rattle.vm_ops.specs.Codes.{code_of, is_ordinary_op, is_start_op}
 pub use Rattle.vm_ops.specs.Moves.{leaves_of, takes_of}
 pub use Rattle.vm_ops.specs.declared.item.Item.{Item}
 pub use Rattle.vm_ops.specs.declared.op.Op.{Op}
+pub use Rattle.vm_ops.specs.declared.op.Op.TheVariants as ops
 pub use Rattle.vm_table.specs.Layout.{row_at}
 pub use Rattle.vm_table.specs.MainColumns.{clk, ctx, depth, f, fmp, h, lv, s, sys, t}
