@@ -1,15 +1,9 @@
 -- The bus of blocks is even: a start gives its block, and its END asks it.
-use Rattle.std.proofs.Common.{◌≡◌, ℕ, ◌+◌, ◌<◌, ◌≤◌, List, [], ◌∷◌, ◌++◌, length, drop, refl, ap, ◌∙◌, arith, lit<, length-drop, length-append}
-use Rattle.vm_field.specs.Machine.{Core}
-use Rattle.buses.specs.Counts.{counted}
-use Rattle.block_tree.specs.Cycles.{Mark, Do}
-use Rattle.block_tree.specs.Steps.{Task, Block, Within, Turned, Closing, Returning, Leaving, Next, loop_1, loop_0, call, syscall, operation, respan, span_ends, repeats, loop_ends, closes, returns, leaves}
-use Rattle.block_tree.specs.Trees.{Loop, tree_digest}
-use Rattle.air_kit.specs.MainTuples.{blocks_asked, blocks_given, no_frame}
-use Rattle.machine_cycles.specs.Events.{shown_between}
-use Rattle.machine_cycles.specs.declared.event.Event.{Event}
-use Rattle.complete_rows.specs.Agreement.{Agrees}
-use Rattle.complete_rows.specs.Decoder.{Decoder, Open, address_of, advance, hidden_of}
+use Rattle.complete_rows.proofs.Words
+use Words.{◌≡◌, ℕ, ◌+◌, ◌≤◌, List, [], ◌∷◌, ◌++◌, length, drop, refl, ap, ◌∙◌, arith, lit<, length-drop, length-append, Core, counted, Mark, Do, Task}
+use Words.{Block, Within, Turned, Closing, Returning, Leaving, Next, loop_1, loop_0, call, syscall, operation, respan, span_ends, repeats, loop_ends, closes}
+use Words.{returns, leaves, Loop, tree_digest, blocks_asked, blocks_given, no_frame, shown_between, Event, Agrees, Decoder, Open, address_of, advance}
+use Words.{hidden_of}
 use Rattle.complete_rows.proofs.AgreeLemmas.{end_keys, ordinary_advance}
 use Rattle.complete_rows.proofs.BlockLemmas.{no_block}
 use Rattle.complete_buses.proofs.BlockTuples.{block_tuple, ends, frame_is, none_asked, none_given, saved, starts}

@@ -1,6 +1,5 @@
 -- The bus of blocks over the rows of a run.
-use Rattle.std.proofs.Common.{arith}
-use Rattle.air_kit.specs.MainTuples.{blocks_asked, blocks_given}
+use Rattle.complete_rows.proofs.Words.{arith, blocks_asked, blocks_given}
 use Rattle.complete_rows.proofs.ChainLemmas.{bus_balanced}
 use Rattle.complete_rows.proofs.TableLemmas.{linked}
 use Rattle.complete_buses.specs.EvenBuses.{BlocksAreEven}

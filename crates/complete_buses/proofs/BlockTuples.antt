@@ -1,21 +1,12 @@
 -- The tuples of blocks that a row gives and asks, by its operation.
-use Rattle.std.proofs.Common.{◌≡◌, ℕ, ◌+◌, ◌<◌, ◌==◌, true, false, cond, List, [], ◌∷◌, ◌++◌, length, slice_index, refl, ap, ◌∙◌, lit<, arith}
-use Rattle.vm_field.specs.Machine.{Core}
-use Rattle.vm_field.specs.Signs.{◌⊞◌, ◌⊠◌}
-use Rattle.buses.specs.Counts.{counted, once}
-use Rattle.buses.proofs.Counting.{counted-none}
-use Rattle.vm_ops.specs.Codes.{is_start_op}
-use Rattle.vm_ops.specs.declared.op.Op.{Op}
-use Rattle.vm_ops.specs.declared.op.Op.TheVariants as ops
-use Rattle.vm_ops.specs.Values.{bit_of}
-use Rattle.vm_table.specs.MainColumns.{addr, h}
+use Rattle.complete_rows.proofs.Words
+use Words.{◌≡◌, ℕ, ◌+◌, ◌<◌, ◌==◌, true, false, cond, List, [], ◌∷◌, ◌++◌, length, slice_index, refl, ap, ◌∙◌, lit<, arith, Core, ◌⊞◌, ◌⊠◌, counted}
+use Words.{counted-none, is_start_op, Op, bit_of, addr, h, key_of, blocks_asked, blocks_given, is_call_op, no_frame, Decoder, Shows}
+use Words.ops
+use Words.flags
+use Words.tuples
 use Rattle.block_tree.specs.Cycles.{Frame}
-use Rattle.air_kit.specs.DeepCells.{key_of}
-use Rattle.air_kit.specs.Flags as flags
-use Rattle.air_kit.specs.MainTuples as tuples
-use Rattle.air_kit.specs.MainTuples.{blocks_asked, blocks_given, is_call_op, kind_of_end, kind_of_start, no_frame}
-use Rattle.complete_rows.specs.Decoder.{Decoder}
-use Rattle.complete_rows.specs.Shows.{Shows}
+use Rattle.air_kit.specs.MainTuples.{kind_of_start}
 use Rattle.complete_rows.proofs.BlockLemmas.{behind_digest}
 use Rattle.complete_buses.proofs.Hits.{hit, one_count}
 
@@ -46,35 +37,23 @@ frame_is sx newest hidden deep = rw (
   sx.digest 3 (lit< tt),
 ) refl
 
-abbrev starter : Op → List ℕ → List ℕ → List ℕ
-starter op x y = block_tuple (addr y) (addr x) (kind_of_start op x) (cond (is_call_op op) (tuples.frame_cells x) no_frame)
-
-abbrev ender : List ℕ → List ℕ → List ℕ
-ender x y = block_tuple (addr x) (addr y) (kind_of_end x) (cond (h x 6 ⊞ h x 7 == 1) (tuples.frame_cells y) no_frame)
-
 module _ (x y u : List ℕ) where
-  by_op : {op : Op} → flags.op_of x ≡ op
-      → (counted (blocks_given x y) u ≡ counted (cond (is_start_op op) (once (starter op x y) ∷ []) []) u)
-      × (counted (blocks_asked x y) u ≡ counted (cond (flags.is_op op ops.End) (once (ender x y) ∷ []) []) u)
-  unfolding blocks_given blocks_asked
-  by_op is = (
-    ap (λ o. counted (cond (is_start_op o) (once (starter o x y) ∷ []) []) u) is,
-    ap (λ o. counted (cond (flags.is_op o ops.End) (once (ender x y) ∷ []) []) u) is,
-  )
-
   pub none_given : {op : Op} → flags.op_of x ≡ op → is_start_op op ≡ false → counted (blocks_given x y) u ≡ 0
-  none_given {op = op} is no_start = (by_op is).0 ∙ ap (λ b. counted (cond b (once (starter op x y) ∷ []) []) u) no_start ∙ counted-none u
+  unfolding blocks_given
+  none_given is no_start = rw (is, no_start) (counted-none u)
 
   pub none_asked : {op : Op} → flags.op_of x ≡ op → flags.is_op op ops.End ≡ false → counted (blocks_asked x y) u ≡ 0
-  none_asked is no_end = (by_op is).1 ∙ ap (λ b. counted (cond b (once (ender x y) ∷ []) []) u) no_end ∙ counted-none u
+  unfolding blocks_asked
+  none_asked is no_end = rw (is, no_end) (counted-none u)
 
   -- a start gives its block, and an END asks it; so much is owed beside it
   pub starts : {op : Op} {own parent kind : ℕ} {frame : List ℕ} → flags.op_of x ≡ op → is_start_op op ≡ true → flags.is_op op ops.End ≡ false
       → addr y ≡ own → addr x ≡ parent → kind_of_start op x ≡ kind → cond (is_call_op op) (tuples.frame_cells x) no_frame ≡ frame → (owed : ℕ)
       → counted (blocks_given x y) u + owed ≡ counted (blocks_asked x y) u + (hit (block_tuple own parent kind frame) u + owed)
+  unfolding blocks_given
   starts {own = own} {parent = parent} {kind = kind} {frame = frame} is start no_end at around kind_is frame_set owed =
       let given : counted (blocks_given x y) u ≡ hit (block_tuple own parent kind frame) u
-      = (by_op is).0 ∙ rw (start, at, around, kind_is, frame_set) (one_count (block_tuple own parent kind frame) u) in
+      = rw (is, start, at, around, kind_is, frame_set) (one_count (block_tuple own parent kind frame) u) in
       omega (arith, given, none_asked is no_end)
 
   pub ends : (digest : List ℕ) (i j k l : ℕ) {own parent : ℕ} {frame : List ℕ} → flags.op_of x ≡ ops.End → length digest ≡ 4
@@ -82,9 +61,9 @@ module _ (x y u : List ℕ) where
       → addr x ≡ own → addr y ≡ parent → cond (k ⊞ l == 1) (tuples.frame_cells y) no_frame ≡ frame → (owed : ℕ)
       → counted (blocks_given x y) u + (hit (block_tuple own parent (i ⊞ 2 ⊠ j ⊞ 3 ⊠ k ⊞ 4 ⊠ l) frame) u + owed)
       ≡ counted (blocks_asked x y) u + owed
+  unfolding blocks_asked
   ends digest i j k l {own = own} {parent = parent} {frame = frame} is size hash at around back owed =
       let z = behind_digest digest i j k l x size hash in
       let asked : counted (blocks_asked x y) u ≡ hit (block_tuple own parent (i ⊞ 2 ⊠ j ⊞ 3 ⊠ k ⊞ 4 ⊠ l) frame) u
-      = (by_op is).1
-      ∙ rw (z.0, z.1, z.2, z.3, at, around, back) (one_count (block_tuple own parent (i ⊞ 2 ⊠ j ⊞ 3 ⊠ k ⊞ 4 ⊠ l) frame) u) in
+      = rw (is, z.0, z.1, z.2, z.3, at, around, back) (one_count (block_tuple own parent (i ⊞ 2 ⊠ j ⊞ 3 ⊠ k ⊞ 4 ⊠ l) frame) u) in
       omega (arith, none_given is refl, asked)

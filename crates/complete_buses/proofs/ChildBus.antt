@@ -1,21 +1,12 @@
 -- The bus of children is even: a child is named before it starts, and its END asks what was named.
-use Rattle.std.proofs.Common.{◌≡◌, ℕ, ◌+◌, ◌<◌, cond, List, [], ◌∷◌, ◌++◌, drop, slice_index, refl, sym, ap, ◌∙◌, arith, lit<}
-use Rattle.vm_field.specs.Machine.{Core, zero_word}
-use Rattle.vm_ops.specs.Codes.{is_start_op}
-use Rattle.vm_ops.specs.declared.op.Op.{Op}
-use Rattle.buses.specs.Counts.{counted}
-use Rattle.vm_table.specs.MainColumns.{s}
-use Rattle.block_tree.specs.Cycles.{Mark, Do, called_word}
-use Rattle.block_tree.specs.Rows.{op_of_mark}
-use Rattle.block_tree.specs.Steps.{Task, Block, Within, Turned, Closing, Returning, Leaving, Next, span, join, split_1, split_0, loop_1, loop_0, call, syscall, dyn, operation, respan, span_ends, repeats, loop_ends, closes, returns, leaves}
-use Rattle.block_tree.specs.Trees.{Loop, tree_digest}
-use Rattle.air_kit.specs.MainTuples.{called_digest, children_asked, children_given, children_of}
-use Rattle.air_kit.specs.Flags as flags
-use Rattle.machine_cycles.specs.Events.{shown_between}
-use Rattle.machine_cycles.specs.declared.event.Event.{Event}
-use Rattle.complete_rows.specs.Agreement.{AreOutside, IsOutsideSpan}
-use Rattle.complete_rows.specs.Decoder.{Decoder, Open, address_of, advance}
-use Rattle.complete_rows.specs.Moments.{Comes}
+use Rattle.complete_rows.proofs.Words
+use Words.{◌≡◌, ℕ, ◌+◌, ◌<◌, cond, List, [], ◌∷◌, ◌++◌, drop, slice_index, refl, sym, ap, ◌∙◌, arith, lit<, Core, zero_word, is_start_op, Op, counted, s, Mark}
+use Words.{Do, op_of_mark, Task, Block, Within, Turned, Closing, Returning, Leaving, Next, span, join, split_1, split_0, loop_1, loop_0, call, syscall, dyn}
+use Words.{operation, respan, span_ends, repeats, loop_ends, closes, returns, leaves, Loop, tree_digest, children_asked, children_given, children_of}
+use Words.{shown_between, Event, AreOutside, IsOutsideSpan, Decoder, Open, address_of, advance, Comes}
+use Words.flags
+use Rattle.block_tree.specs.Cycles.{called_word}
+use Rattle.air_kit.specs.MainTuples.{called_digest}
 use Rattle.complete_rows.proofs.AgreeLemmas.{ordinary_advance}
 use Rattle.complete_rows.proofs.BlockLemmas.{no_block}
 use Rattle.complete_buses.proofs.ChildTuples.{child_tuple, ends, names_none, names_one, names_two, one_named, ordinary_names}

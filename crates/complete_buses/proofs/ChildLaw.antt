@@ -1,7 +1,5 @@
 -- The bus of children over the rows of a run.
-use Rattle.std.proofs.Common.{arith}
-use Rattle.block_tree.specs.Trees.{tree_digest}
-use Rattle.air_kit.specs.MainTuples.{children_asked, children_given}
+use Rattle.complete_rows.proofs.Words.{arith, tree_digest, children_asked, children_given}
 use Rattle.complete_rows.proofs.ChainLemmas.{bus_balanced}
 use Rattle.complete_rows.proofs.MomentFacts.{place_comes}
 use Rattle.complete_rows.proofs.TableLemmas.{linked}

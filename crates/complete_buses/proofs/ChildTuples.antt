@@ -1,13 +1,10 @@
 -- The tuples of children that a row gives and asks, by its operation.
-use Rattle.std.proofs.Common.{◌≡◌, ℕ, ◌+◌, true, false, cond, List, [], ◌∷◌, ◌++◌, refl, ap, ◌∙◌, arith}
-use Rattle.buses.specs.Counts.{counted}
-use Rattle.buses.proofs.Counting.{counted-none}
-use Rattle.vm_ops.specs.Codes.{is_ordinary_op, is_start_op}
-use Rattle.vm_ops.specs.declared.op.Op.{Op}
-use Rattle.vm_ops.specs.declared.op.Op.TheVariants as ops
-use Rattle.vm_table.specs.MainColumns.{addr}
-use Rattle.air_kit.specs.Flags as flags
-use Rattle.air_kit.specs.MainTuples.{back, child, children_asked, children_by, children_given, children_of, front}
+use Rattle.complete_rows.proofs.Words
+use Words.{◌≡◌, ℕ, ◌+◌, true, false, cond, List, [], ◌∷◌, ◌++◌, refl, ap, ◌∙◌, arith, counted, counted-none, is_ordinary_op, is_start_op, Op, addr, back, child}
+use Words.{children_asked, children_given, children_of, front}
+use Words.ops
+use Words.flags
+use Rattle.air_kit.specs.MainTuples.{children_by}
 use Rattle.complete_rows.proofs.AgreeLemmas.{kind_is}
 use Rattle.complete_buses.proofs.Hits.{hit, one_count, stays_owed, two_count}
 

@@ -1,32 +1,17 @@
 -- What the row of an operation asks of its batch.
-use Rattle.std.proofs.Common.{◌≡◌, ◌≢◌, ℕ, zero, suc, ◌+◌, ◌-◌, ◌/◌, ◌%◌, ◌<◌, ◌==◌, Bool, true, false, ◌&&◌, cond, eqb, List, [], ◌∷◌, length, slice_index, Some, refl, sym, ap, ◌∙◌, arith}
-use Rattle.std.proofs.lemmas.Bool.{eq-eqb, ne_eqb}
-use Rattle.vm_field.specs.Machine.{Core}
-use Rattle.vm_ops.specs.Codes.{code_of, is_ordinary_op}
-use Rattle.vm_ops.specs.Items.{push_item}
-use Rattle.vm_ops.specs.Step.{left_cells, performed, seen, stack_after}
-use Rattle.vm_ops.specs.Values.{computed}
-use Rattle.vm_ops.specs.declared.item.Item.{Item}
-use Rattle.vm_ops.specs.declared.op.Op.{Op}
-use Rattle.vm_ops.specs.declared.op.Op.TheVariants as ops
-use Rattle.vm_ops.proofs.CodeLemmas.{code_of-below}
-use Rattle.buses.specs.Counts.{counted}
-use Rattle.vm_table.specs.MainColumns.{gc, h, ha, s, sp}
-use Rattle.op_pack.specs.Reading.{read_on}
-use Rattle.block_tree.specs.Steps.{Task, Within}
-use Rattle.air_kit.specs.Flags as flags
-use Rattle.air_kit.specs.MainTuples.{groups_asked, opens_group}
-use Rattle.air_kit.specs.SpanValues.{rest_flag}
+use Rattle.complete_rows.proofs.Words
+use Words.{◌≡◌, ℕ, ◌+◌, ◌-◌, ◌/◌, ◌%◌, ◌<◌, ◌==◌, Bool, true, false, ◌&&◌, cond, eqb, List, [], ◌∷◌, length, slice_index, refl, sym, ap}
+use Words.{◌∙◌, arith, ne_eqb, Core, code_of, is_ordinary_op, push_item, left_cells, performed, seen, computed, Item, Op, code_of-below, counted, gc, h, ha, s}
+use Words.{sp, Task, Within, groups_asked, opens_group, rest_flag, ReadsAs, ReadsOn, Unread, taken_from, Comes}
+use Words.ops
+use Words.flags
+use Rattle.std.proofs.lemmas.Bool.{eq-eqb}
+use Rattle.vm_ops.specs.Step.{stack_after}
 use Rattle.facts_main.specs.Groups.{IsGroupRow}
-use Rattle.facts_main.specs.RowFacts.{ReadsAs}
 use Rattle.facts_main.proofs.RunFacts.{nothing_left}
-use Rattle.complete_rows.specs.Agreement.{ReadsOn}
-use Rattle.complete_rows.specs.Groups.{Unread, group_after, taken_from}
-use Rattle.complete_rows.specs.Moments.{Comes}
 use Rattle.complete_rows.proofs.AgreeLemmas.{apart_from_push, is_push, takes_next}
-use Rattle.complete_rows.proofs.FollowLemmas.{closes_batch}
-use Rattle.complete_rows.proofs.GroupLemmas.{some_next}
-use Rattle.complete_rows.proofs.ReadingLemmas.{Takes, pushes, goes, opens, ends, reads_some}
+use Rattle.complete_rows.proofs.GroupLemmas.{after_goes, after_opens, after_push, none_next, other_code, same_code, some_next, some_of}
+use Rattle.complete_rows.proofs.ReadingLemmas.{Takes, pushes, goes, opens, ends}
 use Rattle.complete_buses.proofs.GroupTuples.{group_asks, none_asked, positions_given, push_asks}
 use Rattle.complete_buses.proofs.Hits.{hit}
 
@@ -54,35 +39,9 @@ pub record Operates (constants advice : List ℕ) (item : Item) (address : ℕ) 
   pub top : s y 0 ≡ slice_index (performed item.op (seen constants item advice c) c).stack 0
   pub next : is_ordinary_op (flags.op_of y) ≡ true → h y 0 ≡ (taken_from (flags.is_op item.op ops.Push) u).number
 
-going : (n place : ℕ) (positions : List ℕ) → n ≢ 0 → (group_after false n place positions).positions ≡ positions
-going zero place positions some = absurd (some refl)
-going (suc n) place positions some = refl
-
-after_goes : (op : Op) (u : Unread) → flags.is_op op ops.Push ≡ false → u.number / 128 ≢ 0
-    → (taken_from (flags.is_op op ops.Push) u).positions ≡ u.positions
-after_goes op u apart some = rw apart (going (u.number / 128) u.place u.positions some)
-
-after_push : (op : Op) (u : Unread) (position : ℕ) (later : List ℕ) → flags.is_op op ops.Push ≡ true → u.positions ≡ position ∷ later
-    → (taken_from (flags.is_op op ops.Push) u).positions ≡ later
-after_push op u position later push at = rw (push, at) refl
-
-after_opens : (op : Op) (u : Unread) (position : ℕ) (later : List ℕ) → flags.is_op op ops.Push ≡ false → u.number / 128 ≡ 0
-    → u.positions ≡ position ∷ later
-    → ((taken_from (flags.is_op op ops.Push) u).positions ≡ later) × ((taken_from (flags.is_op op ops.Push) u).number ≡ position)
-after_opens op u position later apart none at = (rw (apart, none, at) refl, rw (apart, none, at) refl)
-
 after_ends : (op : Op) (u : Unread) → flags.is_op op ops.Push ≡ false → u.number / 128 ≡ 0 → u.positions ≡ []
     → (taken_from (flags.is_op op ops.Push) u).positions ≡ []
 after_ends op u apart none at = rw (apart, none, at) refl
-
-same_code : (number code : ℕ) → code ≡ number % 128 → number / 128 ≡ 0 → number ≡ code
-same_code number code is none = omega (arith, is, none)
-
-other_code : (number code : ℕ) → code < 128 → number / 128 ≢ 0 → number ≢ code
-other_code number code few some e = omega (arith, few, some, e)
-
-some_of : (positions : List ℕ) (room number : ℕ) (items : List Item) → read_on positions room number ≡ Some items → items ≢ []
-some_of positions room number items e none = reads_some positions room number (e ∙ ap Some none)
 
 taking : (address position : ℕ) (later positions : List ℕ) (u : List ℕ) → positions ≡ position ∷ later
     → positions_given address positions u ≡ hit (address ∷ length positions ∷ position ∷ []) u + positions_given address later u
@@ -90,11 +49,6 @@ unfolding positions_given
 taking address position later positions u at = rw at refl
 
 module _ (constants advice : List ℕ) where
-  none_next : (items : List Item) (later : List (List ℕ)) (digest : List ℕ) (todo : List Task) (c : Core) (next : Op)
-      → items ≡ [] → Comes constants (Within items later digest ∷ todo) c next → is_ordinary_op next ≡ false
-  none_next [] later digest todo c next none comes = (closes_batch constants later digest todo c next comes).0
-  none_next (item ∷ items) later digest todo c next none comes = cc
-
   -- a position is asked where one is taken
   pub operation_asks : (item : Item) (items : List Item) (more : List (List ℕ)) (digest : List ℕ) (todo : List Task) (c after : Core) (address : ℕ)
       (u : Unread) (x y tuple : List ℕ) → Operates constants advice item address u c x y → ReadsOn (item ∷ items) u
@@ -128,13 +82,13 @@ module _ (constants advice : List ℕ) where
           let push : flags.is_op item.op ops.Push ≡ true = is_push item position is in
           let asked = push_asks x y tuple shows.op push shows.batch shows.left
           (shows.top ∙ pushed constants advice position item c is) in
-          let kept = ap (λ places. positions_given address places tuple) (after_push item.op u position behind push at) in
+          let kept = ap (λ (z : Unread). positions_given address z.positions tuple) (after_push item.op u position behind push at) in
           let taken = taking address position behind u.positions tuple at in omega (arith, asked, kept, taken)
       go (goes lower code some e) =
           let apart : flags.is_op item.op ops.Push ≡ false = apart_from_push item.op (u.number % 128) code lower in
           let left : eqb u.number (code_of item.op) ≡ false = ne_eqb u.number (code_of item.op) (other_code u.number (code_of item.op) few some) in
           let asked = none_asked x y tuple shows.op apart (opens_is false (is_ordinary_op (flags.op_of y)) left refl) in
-          let kept = ap (λ places. positions_given address places tuple) (after_goes item.op u apart some) in omega (arith, asked, kept)
+          let kept = ap (λ (z : Unread). positions_given address z.positions tuple) (after_goes item.op u apart some) in omega (arith, asked, kept)
       go (opens position behind lower code none at e) =
           let apart : flags.is_op item.op ops.Push ≡ false = apart_from_push item.op (u.number % 128) code lower in
           let left : eqb u.number (code_of item.op) ≡ true = same_number (same_code u.number (code_of item.op) code none) in
@@ -142,12 +96,12 @@ module _ (constants advice : List ℕ) where
           = some_next constants items more digest todo after (flags.op_of y) (some_of behind 9 position items e) comes in
           let opened = after_opens item.op u position behind apart none at in
           let asked = group_asks x y tuple shows.op apart (opens_is true true left ordinary) shows.batch
-          shows.left (shows.next ordinary ∙ opened.1) in
-          let kept = ap (λ places. positions_given address places tuple) opened.0 in
+          shows.left (shows.next ordinary ∙ ap (λ (z : Unread). z.number) opened) in
+          let kept = ap (λ (z : Unread). positions_given address z.positions tuple) opened in
           let taken = taking address position behind u.positions tuple at in omega (arith, asked, kept, taken)
       go (ends lower code none at no_items) =
           let apart : flags.is_op item.op ops.Push ≡ false = apart_from_push item.op (u.number % 128) code lower in
           let left : eqb u.number (code_of item.op) ≡ true = same_number (same_code u.number (code_of item.op) code none) in
-          let outside : is_ordinary_op (flags.op_of y) ≡ false = none_next items more digest todo after (flags.op_of y) no_items comes in
+          let outside : is_ordinary_op (flags.op_of y) ≡ false = none_next constants items more digest todo after (flags.op_of y) no_items comes in
           let asked = none_asked x y tuple shows.op apart (opens_is true false left outside) in
           let kept = ap (λ places. positions_given address places tuple) (after_ends item.op u apart none at ∙ sym at) in omega (arith, asked, kept)

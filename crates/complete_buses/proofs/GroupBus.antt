@@ -1,21 +1,9 @@
 -- The bus of groups is even: a batch gives its positions, and each is asked where it is taken.
-use Rattle.std.proofs.Common.{◌≡◌, ℕ, ◌+◌, ◌-◌, true, cond, List, ◌∷◌, ◌++◌, refl, ap, ◌∙◌, arith, lit<}
-use Rattle.vm_field.specs.Machine.{Core}
-use Rattle.vm_ops.specs.Codes.{is_ordinary_op}
-use Rattle.buses.specs.Counts.{counted}
-use Rattle.vm_table.specs.MainColumns.{gc, sp}
-use Rattle.op_pack.specs.Reading.{positions_in_use}
-use Rattle.block_tree.specs.Cycles.{Mark, Do}
-use Rattle.block_tree.specs.Steps.{Task, Next, span, operation, respan}
-use Rattle.air_kit.specs.Flags as flags
-use Rattle.air_kit.specs.MainTuples.{groups_asked, groups_given, is_batch_op, positions}
-use Rattle.machine_cycles.specs.Events.{shown_between}
-use Rattle.machine_cycles.specs.declared.event.Event.{Event}
-use Rattle.facts_main.specs.RowFacts.{IsPair, IsRow, ReadsAs}
-use Rattle.complete_rows.specs.Agreement.{Agrees}
-use Rattle.complete_rows.specs.Decoder.{Decoder, advance}
-use Rattle.complete_rows.specs.Groups.{Unread, nothing_unread}
-use Rattle.complete_rows.specs.Moments.{Comes}
+use Rattle.complete_rows.proofs.Words
+use Words.{◌≡◌, ℕ, ◌+◌, ◌-◌, true, cond, List, ◌∷◌, ◌++◌, refl, ap, ◌∙◌, arith, lit<, Core, is_ordinary_op, counted, gc, sp, positions_in_use, Mark, Do, Task}
+use Words.{Next, span, operation, respan, groups_asked, groups_given, is_batch_op, positions, shown_between, Event, IsPair, IsRow, ReadsAs, Agrees, Decoder}
+use Words.{advance, Unread, nothing_unread, Comes}
+use Words.flags
 use Rattle.complete_rows.proofs.AgreeLemmas.{ordinary_advance}
 use Rattle.complete_rows.proofs.PairLemmas.{no_batch}
 use Rattle.complete_buses.proofs.GroupAsks.{operation_asks}

@@ -1,14 +1,6 @@
 -- The bus of groups over the rows of a run.
-use Rattle.std.proofs.Common.{ℕ, ◌≤◌, List, sym, ap, ◌∙◌, arith}
-use Rattle.vm_field.specs.Limits.{most_cycles}
-use Rattle.vm_ops.specs.Codes.{is_ordinary_op}
-use Rattle.vm_ops.specs.Values.{bit_of}
-use Rattle.vm_table.specs.MainColumns.{sp}
-use Rattle.air_kit.specs.MainTuples.{groups_asked, groups_given}
-use Rattle.complete_rows.specs.BlockRows.{decoder_behind}
-use Rattle.complete_rows.specs.Decoder.{advance}
-use Rattle.complete_rows.specs.Filling.{line_of}
-use Rattle.complete_rows.specs.Moments.{IsMoment}
+use Rattle.complete_rows.proofs.Words
+use Words.{ℕ, ◌≤◌, List, sym, ap, ◌∙◌, arith, most_cycles, is_ordinary_op, bit_of, sp, groups_asked, groups_given, decoder_behind, advance, line_of, IsMoment}
 use Rattle.complete_rows.proofs.ChainLemmas.{bus_balanced}
 use Rattle.complete_rows.proofs.ColumnLemmas.{col_sp}
 use Rattle.complete_rows.proofs.MomentFacts.{moment_event, moment_pair, moment_reads, moment_row, place_comes, place_op}

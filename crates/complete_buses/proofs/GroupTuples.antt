@@ -1,15 +1,11 @@
 -- The tuples of groups that a row gives and asks.
-use Rattle.std.proofs.Common.{◌≡◌, ℕ, suc, ◌+◌, ◌-◌, ◌<◌, ◌==◌, Bool, true, false, ◌&&◌, cond, List, [], ◌∷◌, length, drop, take, slice_index, refl, sym, ap, ap₂, ◌∙◌, arith, length-drop, length-take}
-use Rattle.std.proofs.lemmas.List.{get_or-drop, get_or-take}
-use Rattle.buses.specs.Counts.{counted, once}
-use Rattle.buses.proofs.Counting.{counted-none}
-use Rattle.vm_ops.specs.Codes.{is_ordinary_op}
-use Rattle.vm_ops.specs.declared.op.Op.{Op}
-use Rattle.vm_ops.specs.declared.op.Op.TheVariants as ops
-use Rattle.vm_table.specs.MainColumns.{gc, h, ha, s, sp}
-use Rattle.air_kit.specs.Flags as flags
-use Rattle.air_kit.specs.MainTuples.{groups_asked, groups_from, groups_given, is_batch_op, opens_group, positions}
-use Rattle.air_kit.specs.SpanValues.{rest_flag}
+use Rattle.complete_rows.proofs.Words
+use Words.{◌≡◌, ℕ, suc, ◌+◌, ◌-◌, ◌<◌, ◌==◌, true, false, ◌&&◌, List, [], ◌∷◌, length, drop, take, slice_index, refl, sym, ap, ◌∙◌, arith}
+use Words.{length-drop, length-take, get_or-drop, get_or-take, counted, counted-none, is_ordinary_op, Op, gc, h, ha, s, sp, groups_asked, groups_given}
+use Words.{is_batch_op, opens_group, positions, rest_flag}
+use Words.ops
+use Words.flags
+use Rattle.air_kit.specs.MainTuples.{groups_from}
 use Rattle.complete_buses.proofs.Hits.{hit, one_count}
 
 -- the positions that are left of the batch of this address
@@ -39,46 +35,27 @@ places_shown batch x n size hash j low =
 
 -- ---- what a row asks
 
-abbrev immediate : List ℕ → List ℕ → List ℕ
-immediate x y = ha x ∷ gc x ∷ s y 0 ∷ []
-
-abbrev group : List ℕ → List ℕ → List ℕ
-group x y = ha x ∷ gc x ∷ h y 0 ∷ []
-
 module _ (x y u : List ℕ) where
-  given_by : {op : Op} → flags.op_of x ≡ op
-      → counted (groups_given x y) u ≡ counted (cond (is_batch_op op) (groups_from x y 1 (positions x - 1)) []) u
-  unfolding groups_given
-  given_by is = ap (λ o. counted (cond (is_batch_op o) (groups_from x y 1 (positions x - 1)) []) u) is
-
   pub none_given : {op : Op} → flags.op_of x ≡ op → is_batch_op op ≡ false → counted (groups_given x y) u ≡ 0
-  none_given is apart = given_by is ∙ ap (λ b. counted (cond b (groups_from x y 1 (positions x - 1)) []) u) apart ∙ counted-none u
-
-  asked_by : {op : Op} → flags.op_of x ≡ op
-      → counted (groups_asked x y) u
-      ≡ counted (cond (flags.is_op op ops.Push) (once (immediate x y) ∷ []) (cond (opens_group x y) (once (group x y) ∷ []) [])) u
-  unfolding groups_asked
-  asked_by is =
-      ap (λ o. counted (cond (flags.is_op o ops.Push) (once (immediate x y) ∷ []) (cond (opens_group x y) (once (group x y) ∷ []) [])) u) is
-
-  no_push : {op : Op} {opens : Bool} → flags.op_of x ≡ op → flags.is_op op ops.Push ≡ false → opens_group x y ≡ opens
-      → counted (groups_asked x y) u ≡ counted (cond opens (once (group x y) ∷ []) []) u
-  no_push is apart e =
-      asked_by is ∙ ap₂ (λ b o. counted (cond b (once (immediate x y) ∷ []) (cond o (once (group x y) ∷ []) [])) u) apart e
+  unfolding groups_given
+  none_given is apart = rw (is, apart) (counted-none u)
 
   pub push_asks : {op : Op} {address left element : ℕ} → flags.op_of x ≡ op → flags.is_op op ops.Push ≡ true → ha x ≡ address
       → gc x ≡ left → s y 0 ≡ element → counted (groups_asked x y) u ≡ hit (address ∷ left ∷ element ∷ []) u
+  unfolding groups_asked
   push_asks {address = address} {left = left} {element = element} is push at many element_is =
-      asked_by is ∙ rw (push, at, many, element_is) (one_count (address ∷ left ∷ element ∷ []) u)
+      rw (is, push, at, many, element_is) (one_count (address ∷ left ∷ element ∷ []) u)
 
   pub group_asks : {op : Op} {address left element : ℕ} → flags.op_of x ≡ op → flags.is_op op ops.Push ≡ false
       → opens_group x y ≡ true → ha x ≡ address → gc x ≡ left → h y 0 ≡ element
       → counted (groups_asked x y) u ≡ hit (address ∷ left ∷ element ∷ []) u
+  unfolding groups_asked
   group_asks {address = address} {left = left} {element = element} is apart opens at many element_is =
-      no_push is apart opens ∙ rw (at, many, element_is) (one_count (address ∷ left ∷ element ∷ []) u)
+      rw (opens, is, apart, at, many, element_is) (one_count (address ∷ left ∷ element ∷ []) u)
 
   pub none_asked : {op : Op} → flags.op_of x ≡ op → flags.is_op op ops.Push ≡ false → opens_group x y ≡ false → counted (groups_asked x y) u ≡ 0
-  none_asked is apart opens = no_push is apart opens ∙ counted-none u
+  unfolding groups_asked
+  none_asked is apart opens = rw (opens, is, apart) (counted-none u)
 
   -- outside of spans nothing is asked
   pub none_outside : {op : Op} → flags.op_of x ≡ op → is_ordinary_op op ≡ false → flags.is_op op ops.Push ≡ false → counted (groups_asked x y) u ≡ 0
@@ -89,8 +66,9 @@ module _ (x y u : List ℕ) where
       → flags.is_op op ops.Push ≡ false → ha y ≡ address → positions x - 1 ≡ length (drop 1 (take n batch)) → length batch ≡ 8
       → ((j : ℕ) → j < 8 → h x j ≡ slice_index batch j)
       → counted (groups_given x y) u ≡ counted (groups_asked x y) u + positions_given address (drop 1 (take n batch)) u
-  batch_gives batch n is begins outside apart at many size hash =
-      let given = given_by is ∙ ap (λ b. counted (cond b (groups_from x y 1 (positions x - 1)) []) u) begins
-      ∙ ap (λ k. counted (groups_from x y 1 k) u) many ∙ from_place x y 1 (drop 1 (take n batch)) u (places_shown batch x n size hash)
-      ∙ ap (λ k. positions_given k (drop 1 (take n batch)) u) at in
+  unfolding groups_given
+  batch_gives {address = address} batch n is begins outside apart at many size hash =
+      let given : counted (groups_given x y) u ≡ positions_given address (drop 1 (take n batch)) u
+      = rw (is, begins, many) (from_place x y 1 (drop 1 (take n batch)) u (places_shown batch x n size hash)
+      ∙ ap (λ k. positions_given k (drop 1 (take n batch)) u) at) in
       omega (arith, given, none_outside is outside apart)

@@ -1,6 +1,5 @@
 -- How often a tuple counts in a short list.
-use Rattle.std.proofs.Common.{◌≡◌, ℕ, ◌+◌, List, [], ◌∷◌, arith}
-use Rattle.buses.specs.Counts.{counted, hits, once}
+use Rattle.complete_rows.proofs.Words.{◌≡◌, ℕ, ◌+◌, List, [], ◌∷◌, arith, counted, hits, once}
 
 -- 1 where u is this tuple, else 0
 unfoldable pub hit : List ℕ → List ℕ → ℕ

@@ -1,17 +1,10 @@
 -- What follows along the chain of a run's rows.
-use Rattle.std.proofs.Common.{◌≡◌, ℕ, List, [], ◌∷◌, slice_index, refl, ap, subst}
-use Rattle.vm_field.specs.Machine.{Core, State}
-use Rattle.block_tree.specs.Cycles.{Mark}
-use Rattle.block_tree.specs.Rows.{op_of_mark}
-use Rattle.block_tree.specs.Steps.{Task, Closing, Next, closes}
-use Rattle.machine_cycles.specs.declared.event.Event.{Event}
-use Rattle.complete_rows.specs.Agreement.{Agrees}
-use Rattle.complete_rows.specs.Chains as chains
-use Rattle.complete_rows.specs.Chains.{AreLinked}
-use Rattle.complete_rows.specs.Decoder.{Decoder, decoder_after}
-use Rattle.vm_ops.specs.declared.kind.Kind.TheVariants as kinds
-use Rattle.vm_ops.specs.Codes.{kind_of}
-use Rattle.complete_rows.specs.Turns.{repeats, repeats_by}
+use Rattle.complete_rows.proofs.Words
+use Words.{◌≡◌, ℕ, List, [], ◌∷◌, slice_index, refl, ap, subst, Core, State, Mark, op_of_mark, Task, Closing, Next, closes, Event, Agrees, AreLinked, Decoder}
+use Words.{decoder_after, kind_of, repeats_by}
+use Words.chains
+use Words.kinds
+use Rattle.complete_rows.specs.Turns.{repeats}
 
 close_ends : {constants : List ℕ} {digest : List ℕ} {c : Core} {mark : Mark} {rest : List Task} → Next constants (Closing digest) c mark rest
     → kind_of (op_of_mark mark) ≡ kinds.End

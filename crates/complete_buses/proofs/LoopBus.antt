@@ -1,20 +1,11 @@
 -- The bus of loops is even: a loop gives its tuple once for each turn that is still to come.
-use Rattle.std.proofs.Common.{◌≡◌, ℕ, ◌+◌, List, [], ◌∷◌, ◌++◌, drop, slice_index, refl, ap, ◌∙◌, arith}
-use Rattle.vm_field.specs.Machine.{Core, zero_word}
-use Rattle.buses.specs.Counts.{counted}
-use Rattle.vm_table.specs.MainColumns.{w}
-use Rattle.block_tree.specs.Cycles.{Mark, Do}
-use Rattle.block_tree.specs.Rows.{op_of_mark}
+use Rattle.complete_rows.proofs.Words
+use Words.{◌≡◌, ℕ, ◌+◌, List, [], ◌∷◌, ◌++◌, drop, slice_index, refl, ap, ◌∙◌, arith, Core, zero_word, counted, w, Mark, Do, op_of_mark, Task, Block, Within}
+use Words.{Turned, Closing, Next, loop_1, loop_0, operation, loop_ends, Loop, tree_digest, loops_asked, loops_given, shown_between, Event}
+use Words.{Decoder, Open, address_of, advance, kind_of, repeats_by}
+use Words.kinds
 use Rattle.block_tree.specs.Steps as steps
-use Rattle.block_tree.specs.Steps.{Task, Block, Within, Turned, Closing, Returning, Leaving, Next, loop_1, loop_0, operation, loop_ends}
-use Rattle.block_tree.specs.Trees.{Loop, tree_digest}
-use Rattle.air_kit.specs.MainTuples.{loops_asked, loops_given}
-use Rattle.machine_cycles.specs.Events.{shown_between}
-use Rattle.machine_cycles.specs.declared.event.Event.{Event}
-use Rattle.complete_rows.specs.Decoder.{Decoder, Open, address_of, advance}
-use Rattle.vm_ops.specs.declared.kind.Kind.TheVariants as kinds
-use Rattle.vm_ops.specs.Codes.{kind_of}
-use Rattle.complete_rows.specs.Turns.{repeats, repeats_by}
+use Rattle.complete_rows.specs.Turns.{repeats}
 use Rattle.complete_rows.proofs.AgreeLemmas.{kind_is, ordinary_advance}
 use Rattle.complete_rows.proofs.BlockLemmas.{no_block}
 use Rattle.complete_buses.proofs.Hits.{stays_owed}
@@ -26,12 +17,9 @@ module _ (constants : List ℕ) where
   unfoldable pub owed_loops : List Task → List Open → List ℕ → List ℕ → ℕ
   owed_loops [] blocks turns u = 0
   owed_loops (Block tree ∷ todo) blocks turns u = owed_loops todo blocks turns u
-  owed_loops (Within items later digest ∷ todo) blocks turns u = owed_loops todo (drop 1 blocks) (drop 1 turns) u
   owed_loops (Turned body ∷ todo) blocks turns u =
       times (address_of blocks ∷ tree_digest constants body) (slice_index turns 0) u + owed_loops todo (drop 1 blocks) (drop 1 turns) u
-  owed_loops (Closing digest ∷ todo) blocks turns u = owed_loops todo (drop 1 blocks) (drop 1 turns) u
-  owed_loops (Returning digest frame ∷ todo) blocks turns u = owed_loops todo (drop 1 blocks) (drop 1 turns) u
-  owed_loops (Leaving digest frame ∷ todo) blocks turns u = owed_loops todo (drop 1 blocks) (drop 1 turns) u
+  owed_loops (task ∷ todo) blocks turns u = owed_loops todo (drop 1 blocks) (drop 1 turns) u
 
 module _ {constants : List ℕ} {kernel : List (List ℕ)} {advice : List ℕ} {b : Core} {d : Decoder} {events : List Event} {x y : List ℕ}
     (todo : List Task) (u : List ℕ) where

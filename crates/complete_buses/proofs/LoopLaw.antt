@@ -1,13 +1,7 @@
 -- The bus of loops over the rows of a run.
-use Rattle.std.proofs.Common.{◌≡◌, ℕ, List, slice_index, ap, ◌∙◌, arith, lit<}
-use Rattle.vm_table.specs.MainColumns.{w}
-use Rattle.block_tree.specs.Rows.{op_of_mark}
-use Rattle.air_kit.specs.MainTuples.{loops_asked, loops_given}
-use Rattle.machine_cycles.specs.Events.{visible_of}
-use Rattle.complete_rows.specs.Filling.{witnesses_by}
-use Rattle.vm_ops.specs.declared.kind.Kind.TheVariants as kinds
-use Rattle.vm_ops.specs.Codes.{kind_of}
-use Rattle.complete_rows.specs.Moments.{IsMoment}
+use Rattle.complete_rows.proofs.Words
+use Words.{◌≡◌, ℕ, List, slice_index, ap, ◌∙◌, arith, lit<, w, op_of_mark, loops_asked, loops_given, visible_of, witnesses_by, kind_of, IsMoment}
+use Words.kinds
 use Rattle.complete_rows.specs.Turns.{repeats}
 use Rattle.complete_rows.proofs.ChainLemmas.{bus_balanced}
 use Rattle.complete_rows.proofs.MomentFacts.{moment_event, moment_witness}

@@ -1,20 +1,8 @@
 -- What the row of a cycle and the row behind it show to the buses.
-use Rattle.std.proofs.Common.{◌≡◌, ℕ, ◌<◌, List, [], ◌∷◌, ◌++◌, length, slice_index, refl, arith, lit<}
-use Rattle.vm_field.specs.Machine.{Core}
-use Rattle.vm_table.specs.MainColumns.{h}
-use Rattle.block_tree.specs.Cycles.{Mark}
-use Rattle.block_tree.specs.Behind.{IsAllowed, core_behind}
-use Rattle.block_tree.specs.Marks.{IsWholeMark}
-use Rattle.block_tree.specs.Rows.{op_of_mark}
-use Rattle.air_kit.specs.Flags as flags
-use Rattle.air_kit.specs.MainTuples.{back, front}
-use Rattle.machine_cycles.specs.Events.{shown_between}
-use Rattle.machine_cycles.specs.declared.event.Event.{Event}
-use Rattle.complete_rows.specs.Decoder.{Decoder, advance}
-use Rattle.complete_rows.specs.Filling.{hash_by}
-use Rattle.vm_ops.specs.Codes.{kind_of}
-use Rattle.complete_rows.specs.Moments.{IsMoment}
-use Rattle.complete_rows.specs.Shows.{Shows}
+use Rattle.complete_rows.proofs.Words
+use Words.{◌≡◌, ℕ, ◌<◌, List, [], ◌∷◌, ◌++◌, length, slice_index, refl, arith, lit<, Core, h, Mark, IsAllowed, core_behind, IsWholeMark, op_of_mark, back}
+use Words.{front, shown_between, Event, Decoder, advance, hash_by, kind_of, IsMoment, Shows}
+use Words.flags
 use Rattle.complete_rows.proofs.MomentFacts.{advice_of, behind_shows, moment_allowed, moment_behind, moment_hash, moment_op, moment_shows}
 use Rattle.complete_rows.proofs.PairLemmas.{ticked}
 

@@ -1,8 +1,8 @@
 -- The first target of a digest has that digest.
-use Rattle.std.proofs.Common.{◌≡◌, ℕ, nat_eq, Bool, true, false, cond, List, Option, Some, None, refl, sym, ap, subst}
+use Rattle.complete_rows.proofs.Words.{◌≡◌, ℕ, nat_eq, Bool, true, false, cond, List, Option, Some, None, refl, sym, ap, subst, Tree, tree_digest}
 use Rattle.std.specs.Cmp.Lexicographic.{same_text}
 use lib.Pointwise.{pointwise}
-use Rattle.block_tree.specs.Trees.{Tree, Targets, no_target, target, first_target, tree_digest}
+use Rattle.block_tree.specs.Trees.{Targets, no_target, target, first_target}
 use Rattle.block_tree.proofs.TargetLemmas.{none-found}
 
 abbrev tree_or : Tree → Option Tree → Tree

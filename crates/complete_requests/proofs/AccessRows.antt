@@ -1,29 +1,12 @@
 -- A row asks on the bus of memory what its operation requests.
-use Rattle.std.proofs.Common.{◌≡◌, ℕ, ◌<◌, true, List, [], ◌∷◌, ◌++◌, length, map, drop, reverse, slice_index, unwrap_or, refl, sym, ap, ◌∙◌, subst, arith, lit<}
-use Rattle.std.proofs.lemmas.List.{get_or-drop, length-drop}
-use Rattle.vm_field.specs.Limits.{number_of_constants}
-use Rattle.vm_field.specs.Machine.{State}
+use Rattle.complete_rows.proofs.Words
+use Words.{◌≡◌, ℕ, ◌<◌, true, List, [], ◌∷◌, ◌++◌, length, map, drop, reverse, slice_index, unwrap_or, refl, sym, ap, ◌∙◌, subst, arith, lit<, get_or-drop}
+use Words.{length-drop, number_of_constants, State, accesses_memory, left_cells, seen_at, Seen, computed, written, Item, Op, clk, ctx, s, t, Mark, Do, top}
+use Words.{op_of_mark, IsCycle, memory_asked, access_given, visible_of, Event, Visible, limbs_by, limbs_of, word_rest, IsMoment, event_at, access, accesses_by}
+use Words.ops
+use Words.tuples
 use Rattle.vm_field.proofs.Elements.{word-is}
-use Rattle.vm_ops.specs.Codes.{accesses_memory}
-use Rattle.vm_ops.specs.Step.{left_cells}
-use Rattle.vm_ops.specs.Stepping.{seen_at}
-use Rattle.vm_ops.specs.Values.{Seen, cell, computed, written}
-use Rattle.vm_ops.specs.declared.item.Item.{Item}
-use Rattle.vm_ops.specs.declared.op.Op.{Op}
-use Rattle.vm_ops.specs.declared.op.Op.TheVariants as ops
-use Rattle.vm_table.specs.MainColumns.{clk, ctx, s, t}
-use Rattle.block_tree.specs.Cycles.{Mark, Do, top}
-use Rattle.block_tree.specs.Rows.{op_of_mark}
-use Rattle.block_tree.specs.Steps.{IsCycle}
-use Rattle.air_kit.specs.MainTuples as tuples
-use Rattle.air_kit.specs.MainTuples.{memory_asked}
-use Rattle.air_kit.specs.Requests.{access_given}
-use Rattle.machine_cycles.specs.Events.{visible_of}
-use Rattle.machine_cycles.specs.declared.event.Event.{Event}
-use Rattle.machine_cycles.specs.declared.event.Visible.{Visible}
-use Rattle.complete_rows.specs.Limbs.{limbs_by, limbs_of, word_rest}
-use Rattle.complete_rows.specs.Moments.{IsMoment, event_at}
-use Rattle.complete_rows.specs.RunRequests.{access, accesses_by}
+use Rattle.vm_ops.specs.Values.{cell}
 use Rattle.complete_rows.proofs.MomentFacts.{moment_event, moment_limb, moment_op, moment_shows}
 use Rattle.complete_requests.proofs.AccessWords.{event_word}
 use Rattle.complete_requests.proofs.Tops.{ShowsTops, moment_cell, moment_tops}

@@ -1,18 +1,10 @@
 -- What an operation leaves in memory, and the word that its event shows.
-use Rattle.std.proofs.Common.{◌≡◌, ◌≢◌, ℕ, true, cond, List, Option, Some, None, unwrap_or, refl, ap, ◌∙◌}
-use Rattle.vm_field.specs.Machine.{State, WordMap, word_at, zero_word}
+use Rattle.complete_rows.proofs.Words
+use Words.{◌≡◌, ◌≢◌, ℕ, true, cond, List, Option, Some, None, unwrap_or, refl, ap, ◌∙◌, State, WordMap, word_at, zero_word, accesses_memory, memory_with}
+use Words.{seen_at, written, Item, stepped, Do, top, IsCycle, cycle-step, event_at}
 use Rattle.vm_field.proofs.Places.{word_at-insert_other, word_at-insert_same}
-use Rattle.vm_ops.specs.Codes.{accesses_memory}
-use Rattle.vm_ops.specs.Step.{memory_with}
-use Rattle.vm_ops.specs.Stepping.{Stepped, seen_at}
-use Rattle.vm_ops.specs.Values.{written}
-use Rattle.vm_ops.specs.declared.item.Item.{Item}
-use Rattle.vm_ops.proofs.StepLemmas.{stepped}
-use Rattle.block_tree.specs.Cycles.{Do, top}
-use Rattle.block_tree.specs.Steps.{IsCycle}
-use Rattle.block_tree.proofs.KeptLemmas.{cycle-step}
+use Rattle.vm_ops.specs.Stepping.{Stepped}
 use Rattle.block_tree.proofs.RowLemmas.{shown-behind}
-use Rattle.complete_rows.specs.Moments.{event_at}
 
 -- the place where a word may be written, and the other places
 pub word_here : (memory : WordMap) (context address : ℕ) (o : Option (List ℕ))

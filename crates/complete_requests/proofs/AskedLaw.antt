@@ -1,5 +1,5 @@
 -- The rows of a run ask what its requests are.
-use Rattle.std.proofs.Common.{◌-◌, length}
+use Rattle.complete_rows.proofs.Words.{◌-◌, length}
 use Rattle.complete_rows.proofs.TableLemmas.{linked}
 use Rattle.complete_requests.specs.Asked.{RunAsks}
 use Rattle.complete_requests.proofs.HasherLaw.{hashes_asked}

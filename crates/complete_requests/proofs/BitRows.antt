@@ -1,26 +1,12 @@
 -- A row asks on the bus of bitwise operations what its operation requests.
-use Rattle.std.proofs.Common.{◌≡◌, ℕ, ◌<◌, if◌then◌else◌, List, [], ◌∷◌, length, map, bit_and, bit_xor, refl, ap, ◌∙◌, lit<}
+use Rattle.complete_rows.proofs.Words
+use Words.{◌≡◌, ℕ, ◌<◌, if◌then◌else◌, List, [], ◌∷◌, length, map, refl, ap, ◌∙◌, lit<, number_of_constants, State, left_cells, seen_at, Seen, computed, Item}
+use Words.{Op, s, Mark, Do, op_of_mark, Counted, once, is_op, bitwise_asked, bit_given, visible_of, Visible, IsMoment, bits_by}
+use Words.ops
+use Words.flags
+use Rattle.std.proofs.Common.{bit_and, bit_xor}
 use Rattle.std.proofs.lemmas.Nat.{and_comm, xor_comm}
-use Rattle.vm_field.specs.Limits.{number_of_constants}
-use Rattle.vm_field.specs.Machine.{State}
-use Rattle.vm_ops.specs.Step.{left_cells}
-use Rattle.vm_ops.specs.Stepping.{seen_at}
-use Rattle.vm_ops.specs.Values.{Seen, cell, computed}
-use Rattle.vm_ops.specs.declared.item.Item.{Item}
-use Rattle.vm_ops.specs.declared.op.Op.{Op}
-use Rattle.vm_ops.specs.declared.op.Op.TheVariants as ops
-use Rattle.vm_table.specs.MainColumns.{s}
-use Rattle.block_tree.specs.Cycles.{Mark, Do}
-use Rattle.block_tree.specs.Rows.{op_of_mark}
-use Rattle.buses.specs.Counts.{Counted, once}
-use Rattle.air_kit.specs.Flags as flags
-use Rattle.air_kit.specs.Flags.{is_op}
-use Rattle.air_kit.specs.MainTuples.{bitwise_asked}
-use Rattle.air_kit.specs.Requests.{bit_given}
-use Rattle.machine_cycles.specs.Events.{visible_of}
-use Rattle.machine_cycles.specs.declared.event.Visible.{Visible}
-use Rattle.complete_rows.specs.Moments.{IsMoment}
-use Rattle.complete_rows.specs.RunRequests.{bits_by}
+use Rattle.vm_ops.specs.Values.{cell}
 use Rattle.complete_rows.proofs.MomentFacts.{moment_op}
 use Rattle.complete_requests.proofs.Tops.{ShowsTops, moment_cell, moment_tops}
 

@@ -1,15 +1,11 @@
 -- What the permutations of a hash give: its first block, its other blocks, and its digest.
-use Rattle.std.proofs.Common.{◌≡◌, ℕ, Bool, All, cond, suc, ◌+◌, ◌*◌, false, true, List, [], ◌∷◌, ◌++◌, length, take, drop, refl, ap, arith, length-append, length-take}
-use Rattle.std.proofs.lemmas.List.Elements.{All-head, All-nil, All-tail}
-use Rattle.vm_field.specs.Limits.{number_of_constants}
-use Rattle.vm_field.specs.Sponge.{absorbed, begun, hashed, sponge_after, squeezed}
-use Rattle.vm_field.proofs.PermutationLemmas.{length-permuted}
-use Rattle.op_pack.specs.Reading.{IsBatch}
-use Rattle.buses.specs.Counts.{counted, once}
-use Rattle.buses.proofs.Counting.{counted-none, counted-append}
-use Rattle.air_kit.specs.Requests.{perm_begins, perm_ends, perms_given}
-use Rattle.air_kit.specs.declared.requests.Perm.{Perm}
-use Rattle.complete_rows.specs.RunRequests.{chain, hash_perms, is_empty}
+use Rattle.complete_rows.proofs.Words
+use Words.{◌≡◌, ℕ, Bool, All, cond, suc, ◌+◌, ◌*◌, false, true, List, [], ◌∷◌, ◌++◌, length, take, drop, refl, ap, arith, length-append, length-take, All-head}
+use Words.{All-nil, All-tail, number_of_constants, absorbed, begun, hashed, length-permuted, IsBatch, counted, once, counted-none, counted-append, perms_given}
+use Words.{Perm, chain, hash_perms}
+use Rattle.vm_field.specs.Sponge.{sponge_after, squeezed}
+use Rattle.air_kit.specs.Requests.{perm_begins, perm_ends}
+use Rattle.complete_rows.specs.RunRequests.{is_empty}
 
 -- how often a tuple counts that counts once
 abbrev pub hit : List ℕ → List ℕ → ℕ

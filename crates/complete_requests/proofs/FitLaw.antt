@@ -1,6 +1,5 @@
 -- The requests of a run fit.
-use Rattle.std.proofs.Common.{[], length, ap, arith}
-use Rattle.complete_rows.specs.BlockRows.{events_of}
+use Rattle.complete_rows.proofs.Words.{[], length, ap, arith, events_of}
 use Rattle.complete_rows.proofs.TableLemmas.{keys_asked, linked}
 use Rattle.complete_requests.specs.Fitting.{RunFits}
 use Rattle.complete_requests.proofs.Follows.{perms_follow}

@@ -1,38 +1,19 @@
 -- What follows along the chain of a run's rows, and sums over its pairs.
-use Rattle.std.proofs.Common.{◌≡◌, ℕ, ◌+◌, List, [], ◌∷◌, ◌++◌, map, All, refl, ap, ◌∙◌, arith}
-use Rattle.std.proofs.lemmas.List.Elements.{All-cons, All-nil}
-use Rattle.vm_field.specs.Machine.{Core, State}
-use Rattle.op_pack.specs.Reading.{IsBatch}
-use Rattle.block_tree.specs.Cycles.{Mark, Do}
-use Rattle.block_tree.specs.Marks.{IsWholeMark}
-use Rattle.block_tree.specs.Rows.{hash_of, op_of_mark}
-use Rattle.block_tree.proofs.RowLemmas.{hash-batch}
-use Rattle.block_tree.specs.Steps.{Task, Block, Within, Turned, Closing, Returning, Leaving, Next, operation, respan}
-use Rattle.buses.specs.Counts.{Counted, counted, over_rows, with_next}
-use Rattle.machine_cycles.specs.Events.{visible_of}
-use Rattle.machine_cycles.specs.declared.event.Event.{Event}
-use Rattle.complete_rows.specs.Bounds.{IsSmallCore}
-use Rattle.complete_rows.specs.Chains as chains
-use Rattle.complete_rows.specs.Chains.{AreLinked, over_pairs}
-use Rattle.complete_rows.specs.Decoder.{Decoder, advance, decoder_after}
-use Rattle.complete_rows.specs.Filling.{seen_behind}
-use Rattle.vm_ops.specs.declared.kind.Kind.TheVariants as kinds
-use Rattle.vm_ops.specs.declared.kind.Kind.{Kind}
-use Rattle.vm_ops.specs.Codes.{kind_of}
-use Rattle.complete_rows.specs.Moments.{IsMoment, event_at}
-use Rattle.complete_rows.specs.Turns.{respans, respans_by}
+use Rattle.complete_rows.proofs.Words
+use Words.{◌≡◌, ℕ, ◌+◌, List, [], ◌∷◌, ◌++◌, map, All, refl, ap, ◌∙◌, arith, All-cons, All-nil, Core, State, IsBatch, Mark, Do, IsWholeMark, hash_of}
+use Words.{op_of_mark, hash-batch, Task, Within, Next, operation, respan, Counted, counted, over_rows, with_next}
+use Words.{visible_of, Event, IsSmallCore, AreLinked, Decoder, advance, decoder_after, seen_behind, Kind, kind_of, IsMoment, event_at, respans, respans_by}
+use Words.chains
+use Words.kinds
+use Rattle.complete_rows.specs.Chains.{over_pairs}
 use Rattle.complete_rows.proofs.AgreeLemmas.{kind_is}
 use Rattle.complete_rows.proofs.ChainLemmas.{balanced, over_rows_pairs}
 
 -- the batches of the span that is open
 abbrev pub coming : List Task → List (List ℕ)
 coming [] = []
-coming (Block tree ∷ todo) = []
 coming (Within items later digest ∷ todo) = later
-coming (Turned body ∷ todo) = []
-coming (Closing digest ∷ todo) = []
-coming (Returning digest frame ∷ todo) = []
-coming (Leaving digest frame ∷ todo) = []
+coming (task ∷ todo) = []
 
 coming_step : (constants : List ℕ) {task : Task} {c : Core} {mark : Mark} {rest : List Task} → Next constants task c mark rest → IsWholeMark mark
     → (todo : List Task) (more : List (List ℕ)) → more ≡ coming (rest ++ todo)

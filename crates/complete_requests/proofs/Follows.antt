@@ -1,30 +1,12 @@
 -- The permutations of a run follow one another.
-use Rattle.std.proofs.Common.{◌≡◌, ℕ, All, true, false, List, [], ◌∷◌, ◌++◌, length, take, refl, arith}
-use Rattle.std.proofs.lemmas.List.Elements.{All-head, All-nil, All-tail}
-use Rattle.vm_field.specs.Limits.{number_of_constants}
-use Rattle.vm_field.specs.Machine.{State}
-use Rattle.vm_field.specs.Permutation.{permuted}
-use Rattle.vm_field.specs.Sponge.{absorbed, begun}
-use Rattle.vm_ops.specs.Codes.{code_of}
-use Rattle.vm_ops.specs.declared.op.Op.{Op}
-use Rattle.vm_ops.specs.declared.op.Op.TheVariants as ops
-use Rattle.op_pack.specs.Reading.{IsBatch}
-use Rattle.block_tree.specs.Rows.{op_of_mark}
-use Rattle.block_tree.specs.Steps.{Task}
-use Rattle.block_tree.proofs.RowLemmas.{hash-batch}
+use Rattle.complete_rows.proofs.Words
+use Words.{◌≡◌, ℕ, All, true, false, List, [], ◌∷◌, ◌++◌, length, take, refl, arith, All-head, All-nil, All-tail, number_of_constants, State, permuted}
+use Words.{absorbed, begun, Op, IsBatch, op_of_mark, Task, hash-batch, Perm, Event, Visible, never, off, AreLinked, Decoder, Kind, kind_of, chain}
+use Words.{hash_perms, perms_by, perms_by_op, perms_of, respans}
+use Words.ops
+use Words.chains
+use Words.kinds
 use Rattle.air_kit.specs.Requests.{FollowsOn}
-use Rattle.air_kit.specs.declared.requests.Perm.{Perm}
-use Rattle.machine_cycles.specs.declared.event.Event.{Event}
-use Rattle.machine_cycles.specs.declared.event.Visible.{Visible}
-use Rattle.facts_main.proofs.Says.{never, off}
-use Rattle.complete_rows.specs.Chains as chains
-use Rattle.complete_rows.specs.Chains.{AreLinked}
-use Rattle.complete_rows.specs.Decoder.{Decoder}
-use Rattle.vm_ops.specs.declared.kind.Kind.TheVariants as kinds
-use Rattle.vm_ops.specs.declared.kind.Kind.{Kind}
-use Rattle.vm_ops.specs.Codes.{kind_of}
-use Rattle.complete_rows.specs.RunRequests.{chain, hash_perms, perms_by, perms_by_op, perms_of}
-use Rattle.complete_rows.specs.Turns.{respans}
 use Rattle.complete_requests.proofs.Chains.{absorbed_twelve}
 use Rattle.complete_rows.proofs.MomentFacts.{moment_event}
 use Rattle.complete_requests.proofs.Following.{coming_whole}
@@ -43,10 +25,10 @@ module _ (constants : List ℕ) (len : length constants ≡ number_of_constants)
       → Follow constants others → FollowsOn constants true state (chain constants state true (block ∷ blocks) ++ others)
   unfolding chain
   goes_on state block [] others size h all rest =
-      (refl, λ e. off e, λ e. take_taken state block size, λ e g. never g, rest (permuted constants (take 4 state ++ block)))
+      (refl, off, λ e. take_taken state block size, λ e g. never g, rest (permuted constants (take 4 state ++ block)))
   goes_on state block (next ∷ blocks) others size h all rest = (
     refl,
-    λ e. off e,
+    off,
     λ e. take_taken state block size,
     λ e g. never g,
     goes_on (absorbed constants state block) next blocks others (absorbed_twelve constants len state block size h)
@@ -57,31 +39,29 @@ module _ (constants : List ℕ) (len : length constants ≡ number_of_constants)
       → Follow constants others → Follow constants (hash_perms constants domain (block ∷ blocks) ++ others)
   unfolding chain
   begins domain block [] others h all rest state =
-      (refl, λ e. off e, λ e. off e, λ e g. (refl, refl, refl), rest (permuted constants (take 4 (begun domain) ++ block)))
+      (refl, off, off, λ e g. (refl, refl, refl), rest (permuted constants (take 4 (begun domain) ++ block)))
   begins domain block (next ∷ blocks) others h all rest state = (
     refl,
-    λ e. off e,
-    λ e. off e,
+    off,
+    off,
     λ e g. (refl, refl, refl),
     goes_on (absorbed constants (begun domain) block) next blocks others (absorbed_twelve constants len (begun domain) block refl h)
         (All-head IsBatch next blocks all) (All-tail IsBatch next blocks all) rest,
   )
 
   op_follows : (op : Op) (seen : Visible) (others : List Perm) → Follow constants others → Follow constants (perms_by_op op seen ++ others)
-  op_follows ops.HPerm seen others rest state = (refl, λ e. (refl, refl), λ e. off e, λ e g. never e, rest _)
+  op_follows ops.HPerm seen others rest state = (refl, λ e. (refl, refl), off, λ e g. never e, rest _)
   op_follows op seen others rest state = rest state
 
   follows_by : (k : Kind) (e : Event) (later : List Event) (others : List Perm) → IsBatch e.hash → All IsBatch (respans later) → Follow constants others
       → Follow constants (perms_by k constants e later ++ others)
   follows_by kinds.Ordinary e later others h all rest = op_follows e.op e.before others rest
-  follows_by kinds.Join e later others h all rest = begins (code_of ops.Join) e.hash [] others h (All-nil IsBatch) rest
-  follows_by kinds.Split e later others h all rest = begins (code_of ops.Split) e.hash [] others h (All-nil IsBatch) rest
-  follows_by kinds.Loop e later others h all rest = begins (code_of ops.Loop) e.hash [] others h (All-nil IsBatch) rest
   follows_by kinds.Span e later others h all rest = begins 0 e.hash (respans later) others h all rest
-  follows_by kinds.Call e later others h all rest = begins (code_of ops.Call) e.hash [] others h (All-nil IsBatch) rest
-  follows_by kinds.Syscall e later others h all rest = begins (code_of ops.Syscall) e.hash [] others h (All-nil IsBatch) rest
-  follows_by kinds.Dyn e later others h all rest = begins (code_of ops.Dyn) e.hash [] others h (All-nil IsBatch) rest
-  follows_by kind e later others h all rest = rest
+  follows_by kinds.End e later others h all rest = rest
+  follows_by kinds.Repeat e later others h all rest = rest
+  follows_by kinds.Respan e later others h all rest = rest
+  follows_by kinds.Halt e later others h all rest = rest
+  follows_by kind e later others h all rest = begins _ e.hash [] others h (All-nil IsBatch) rest
 
 module _ {constants : List ℕ} (len : length constants ≡ number_of_constants) where
   pub perms_follow : {kernel : List (List ℕ)} {limit : ℕ} {u : State} {todo : List Task} {d : Decoder} {s : State} {events : List Event}

@@ -1,20 +1,7 @@
 -- The rows of a run ask on the hasher's bus what its permutations give.
-use Rattle.std.proofs.Common.{◌≡◌, ℕ, List, [], ◌∷◌, length, refl, arith, lit<}
-use Rattle.vm_field.specs.Limits.{number_of_constants}
-use Rattle.vm_field.specs.Machine.{State}
-use Rattle.block_tree.specs.Rows.{op_of_mark}
-use Rattle.block_tree.specs.Steps.{Block}
-use Rattle.block_tree.specs.Trees.{Tree}
-use Rattle.buses.specs.Counts.{counted, over_rows, with_next}
-use Rattle.buses.proofs.Counting.{counted-none}
-use Rattle.air_kit.specs.MainTuples.{hasher_asked}
-use Rattle.air_kit.specs.Requests.{perms_given}
-use Rattle.machine_cycles.specs.Events.{visible_of}
-use Rattle.machine_cycles.specs.declared.event.Event.{Event}
-use Rattle.complete_rows.specs.Chains.{AreLinked}
-use Rattle.complete_rows.specs.Decoder.{Decoder, at_start}
-use Rattle.complete_rows.specs.Moments.{IsMoment}
-use Rattle.complete_rows.specs.RunRequests.{perms_of}
+use Rattle.complete_rows.proofs.Words
+use Words.{◌≡◌, ℕ, List, [], ◌∷◌, length, refl, arith, lit<, number_of_constants, State, op_of_mark, Block, Tree, counted, over_rows, with_next, counted-none}
+use Words.{hasher_asked, perms_given, visible_of, Event, AreLinked, Decoder, at_start, IsMoment, perms_of}
 use Rattle.complete_rows.proofs.MomentFacts.{advice_of, moment_behind, moment_event, moment_op, moment_witness}
 use Rattle.complete_requests.proofs.Following.{coming_are, coming_whole, rows_ask}
 use Rattle.complete_requests.proofs.HasherBus.{hasher_step}
@@ -41,6 +28,6 @@ module _ {constants : List ℕ} (len : length constants ≡ number_of_constants)
       → over_rows (with_next hasher_asked) rows v ≡ counted (perms_given constants 1 (perms_of constants events)) v
   hashes_asked deep linked =
       let asked = rows_ask hasher_asked v (owed_hashes constants v)
-      (λ x y rows m later. hasher_step len (advice_of m) m.first m.d m.later m.todo (moment_behind m) m.whole (coming_whole later)
+      (λ x y rows m later. hasher_step len (advice_of m) m.d m.later m.todo (moment_behind m) m.first m.whole (coming_whole later)
       (coming_are later) m.agrees.reads.1 (moment_cells m) (moment_low m) (operation_asks m)) (nothing_owed constants v) linked in
       omega (arith, asked)

@@ -1,28 +1,12 @@
 -- On the hasher's bus a cycle asks what its requests give, and what the hashes of open blocks still owe.
-use Rattle.std.proofs.Common.{◌≡◌, ℕ, ◌+◌, ◌*◌, ◌<◌, if◌then◌else◌, true, false, List, [], ◌∷◌, ◌++◌, length, take, drop, slice_index, refl, ap, ◌∙◌, arith}
-use Rattle.vm_field.specs.Limits.{number_of_constants}
-use Rattle.vm_field.specs.Field.{prime}
-use Rattle.vm_field.specs.Signs.{◌⊞◌}
-use Rattle.vm_field.specs.Sponge.{hashed}
-use Rattle.vm_ops.specs.Codes.{is_ordinary_op, is_start_op}
-use Rattle.vm_ops.specs.declared.op.Op.{Op}
-use Rattle.vm_ops.specs.declared.op.Op.TheVariants as ops
-use Rattle.vm_table.specs.MainColumns.{addr, h, ha, w}
-use Rattle.op_pack.specs.Reading.{IsBatch}
-use Rattle.block_tree.specs.Cycles.{Mark}
-use Rattle.block_tree.specs.Rows.{hash_of, op_of_mark}
-use Rattle.block_tree.specs.Steps.{Task, Block, Within, Turned, Closing, Returning, Leaving}
-use Rattle.block_tree.specs.Trees.{Loop, tree_digest}
-use Rattle.buses.specs.Counts.{Counted, counted, once}
-use Rattle.air_kit.specs.Flags as flags
-use Rattle.air_kit.specs.Flags.{is_op}
-use Rattle.air_kit.specs.MainTuples.{domain_of, eight, front, hash_end, hasher_asked, twelve}
-use Rattle.air_kit.specs.Requests.{perms_given}
-use Rattle.air_kit.specs.declared.requests.Perm.{Perm}
-use Rattle.machine_cycles.specs.declared.event.Event.{Event}
-use Rattle.complete_rows.specs.Agreement.{AreOutside}
-use Rattle.complete_rows.specs.Decoder.{Decoder, Open, address_of, next_after}
-use Rattle.complete_rows.specs.RunRequests.{hash_perms, perms_by_op, perms_of}
+use Rattle.complete_rows.proofs.Words
+use Words.{◌≡◌, ℕ, ◌+◌, ◌*◌, ◌<◌, if◌then◌else◌, true, false, List, [], ◌∷◌, ◌++◌, length, take, drop, slice_index, refl, ap, ◌∙◌, arith, number_of_constants}
+use Words.{prime, ◌⊞◌, hashed, is_ordinary_op, is_start_op, Op, addr, h, ha, w, IsBatch, Mark, hash_of, op_of_mark, Task, Block, Within, Turned, Closing}
+use Words.{Returning, Leaving, Loop, tree_digest, Counted, counted, once, is_op, eight, front, hasher_asked, twelve, perms_given, Perm, Event, AreOutside}
+use Words.{Decoder, Open, address_of, next_after, hash_perms, perms_by_op, perms_of}
+use Words.ops
+use Words.flags
+use Rattle.air_kit.specs.MainTuples.{domain_of, hash_end}
 use Rattle.complete_requests.proofs.Chains.{batches_owed, hit, one_given}
 
 -- what the hashes of open blocks still ask: their digests

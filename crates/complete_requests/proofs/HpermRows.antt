@@ -1,46 +1,17 @@
 -- HPERM's row and the row behind it show its permutation; other operations ask the hasher for nothing.
-use Rattle.std.proofs.Common.{◌≡◌, ℕ, Bool, ◌+◌, ◌*◌, ◌<◌, ◌≤◌, true, false, List, [], length, take, reverse, slice_index, refl, sym, ap, ◌∙◌, subst, arith}
-use Rattle.std.proofs.lemmas.List.{append-nil, get_or-take, length-reverse, length-take-le, reverse-reverse}
-use Rattle.vm_field.specs.Limits.{number_of_constants}
-use Rattle.vm_field.specs.Field.{prime}
-use Rattle.std.proofs.lemmas.Bool.{eqb-true}
-use Rattle.vm_field.specs.Machine.{State}
-use Rattle.vm_field.specs.Permutation.{permuted}
-use Rattle.vm_field.specs.Signs.{◌⊞◌}
-use Rattle.vm_field.proofs.PermutationLemmas.{length-permuted}
-use Rattle.vm_ops.specs.Codes.{code_of, is_ordinary_op}
-use Rattle.vm_ops.specs.Step.{left_cells}
-use Rattle.vm_ops.specs.Stepping.{seen_at}
-use Rattle.vm_ops.specs.declared.item.Item.{Item}
-use Rattle.vm_ops.specs.declared.op.Op.{Op}
-use Rattle.vm_ops.proofs.CodeLemmas.{code_of-different}
-use Rattle.vm_ops.specs.Values.{Seen, computed}
-use Rattle.vm_ops.specs.declared.op.Op.TheVariants as ops
+use Rattle.complete_rows.proofs.Words
+use Words.{◌≡◌, ℕ, Bool, ◌+◌, ◌*◌, ◌<◌, ◌≤◌, true, false, List, [], length, take, reverse, slice_index, refl, sym, ap, ◌∙◌, subst, arith, append-nil}
+use Words.{get_or-take, length-take-le, number_of_constants, prime, State, permuted, ◌⊞◌, length-permuted, is_ordinary_op, left_cells}
+use Words.{seen_at, Item, Op, Seen, computed, s, w, Mark, Do, op_of_mark, counted, is_op, hasher_asked, twelve, perms_given, visible_of}
+use Words.{Event, Visible, never, off, Decoder, next_after, witnesses_by, kind_of, operation_witnesses, perms_by_op}
+use Words.ops
+use Words.flags
+use Rattle.std.proofs.lemmas.List.{length-reverse, reverse-reverse}
 use Rattle.vm_table.specs.MainColumns as columns
-use Rattle.vm_table.specs.MainColumns.{s, w}
-use Rattle.block_tree.specs.Cycles.{Mark, Do}
-use Rattle.block_tree.specs.Rows.{op_of_mark}
-use Rattle.buses.specs.Counts.{counted}
-use Rattle.air_kit.specs.Flags as flags
-use Rattle.air_kit.specs.Flags.{is_op}
-use Rattle.air_kit.specs.MainTuples.{hasher_asked, twelve}
-use Rattle.air_kit.specs.Requests.{perms_given}
-use Rattle.machine_cycles.specs.Events.{visible_of}
-use Rattle.machine_cycles.specs.declared.event.Event.{Event}
-use Rattle.machine_cycles.specs.declared.event.Visible.{Visible}
-use Rattle.facts_main.proofs.Says.{never, off}
-use Rattle.complete_rows.specs.Decoder.{Decoder, next_after}
-use Rattle.complete_rows.specs.Filling.{witnesses_by}
-use Rattle.vm_ops.specs.Codes.{kind_of}
-use Rattle.complete_rows.specs.Witnesses.{operation_witnesses}
 use Rattle.complete_rows.proofs.AgreeLemmas.{kind_is}
-use Rattle.complete_rows.proofs.BlockLemmas.{no_block}
-use Rattle.complete_rows.specs.RunRequests.{perms_by_op}
+use Rattle.complete_rows.proofs.BlockLemmas.{no_block, op_same}
 use Rattle.complete_requests.proofs.HasherSteps.{asks}
 use Rattle.complete_requests.proofs.Tops.{ShowsTops, twelve_are}
-
-op_same : (a b : Op) → is_op a b ≡ true → a ≡ b
-op_same a b is = code_of-different a b (eqb-true (code_of a) (code_of b) is)
 
 -- the state before it, and the state behind it
 pub hperm_before : (x cells : List ℕ) → length cells ≡ 16 → ((j : ℕ) → j < 16 → s x j ≡ slice_index cells j) → twelve x ≡ reverse (take 12 cells)

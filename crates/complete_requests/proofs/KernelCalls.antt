@@ -1,25 +1,16 @@
 -- The digests that a run's syscalls call are words of the kernel.
-use Rattle.std.proofs.Common.{◌≡◌, ℕ, suc, ◌<◌, All, Bool, true, false, ◌||◌, nat_eq, if◌then◌else◌, List, [], ◌∷◌, ◌++◌, length, take, refl, sym, ◌∙◌, subst, arith, slice_index_or}
-use Rattle.std.proofs.lemmas.List.Elements.{All-cons, All-nil}
+use Rattle.complete_rows.proofs.Words
+use Words.{◌≡◌, ℕ, suc, ◌<◌, All, Bool, true, false, ◌||◌, nat_eq, if◌then◌else◌, List, [], ◌∷◌, ◌++◌, length, take, refl, sym, ◌∙◌, subst, arith}
+use Words.{slice_index_or, All-cons, All-nil, Core, State, zero_word, IsAllowed, Mark, StartSyscall, Do, IsWholeMark, hash_of, op_of_mark, Task, is_op, Event}
+use Words.{AreLinked, Decoder, calls_of}
+use Words.ops
+use Words.chains
 use Rattle.std.proofs.Common.{Equal, Less, Greater}
 use Rattle.std.specs.Cmp.Lexicographic.{slice_cmp, texts_ties}
 use Rattle.std.specs.List.{list_any}
 use Rattle.std.specs.Ordering.{is_eq, nat_cmp}
 use Rattle.std.proofs.lemmas.Map.Lookups.{exact_bytes}
 use lib.Pointwise.{pointwise}
-use Rattle.vm_field.specs.Machine.{Core, State, zero_word}
-use Rattle.vm_ops.specs.declared.op.Op.TheVariants as ops
-use Rattle.block_tree.specs.Behind.{IsAllowed}
-use Rattle.block_tree.specs.Cycles.{Mark, StartSyscall, Do}
-use Rattle.block_tree.specs.Marks.{IsWholeMark}
-use Rattle.block_tree.specs.Rows.{hash_of, op_of_mark}
-use Rattle.block_tree.specs.Steps.{Task}
-use Rattle.air_kit.specs.Flags.{is_op}
-use Rattle.machine_cycles.specs.declared.event.Event.{Event}
-use Rattle.complete_rows.specs.Chains as chains
-use Rattle.complete_rows.specs.Chains.{AreLinked}
-use Rattle.complete_rows.specs.Decoder.{Decoder}
-use Rattle.complete_rows.specs.RunRequests.{calls_of}
 use Rattle.complete_rows.proofs.BlockLemmas.{no_block}
 use Rattle.complete_rows.proofs.MomentFacts.{advice_of, moment_allowed}
 

@@ -1,27 +1,13 @@
 -- The rows of a run ask on the kernel's bus the digests that its syscalls call.
-use Rattle.std.proofs.Common.{if◌then◌else◌, ◌≡◌, ℕ, ◌+◌, Bool, true, false, List, [], ◌∷◌, ◌++◌, map, take, refl, ap, ◌∙◌, arith}
-use Rattle.vm_field.specs.Machine.{State}
-use Rattle.vm_ops.specs.Codes.{code_of, is_ordinary_op}
-use Rattle.vm_ops.specs.declared.op.Op.{Op}
-use Rattle.vm_ops.specs.declared.op.Op.TheVariants as ops
-use Rattle.vm_ops.proofs.CodeLemmas.{code_of-different}
-use Rattle.std.proofs.lemmas.Bool.{eqb-true}
-use Rattle.block_tree.specs.Rows.{hash_of, op_of_mark}
-use Rattle.block_tree.specs.Steps.{Task}
-use Rattle.buses.specs.Counts.{Counted, counted, once, over_rows, with_next}
-use Rattle.buses.proofs.Counting.{counted-none, counted-append}
-use Rattle.air_kit.specs.Flags.{is_op}
-use Rattle.air_kit.specs.MainTuples.{front, kernel_asked}
-use Rattle.machine_cycles.specs.declared.event.Event.{Event}
-use Rattle.complete_rows.specs.Chains.{AreLinked}
-use Rattle.complete_rows.specs.Decoder.{Decoder}
-use Rattle.complete_rows.specs.Moments.{IsMoment}
-use Rattle.complete_rows.specs.RunRequests.{calls_of}
+use Rattle.complete_rows.proofs.Words
+use Words.{if◌then◌else◌, ◌≡◌, ℕ, ◌+◌, Bool, true, false, List, [], ◌∷◌, ◌++◌, map, take, refl, ap, ◌∙◌, arith, State, is_ordinary_op, Op}
+use Words.{hash_of, op_of_mark, Task, Counted, counted, once, over_rows, with_next, counted-none, counted-append, is_op, front}
+use Words.{Event, AreLinked, Decoder, IsMoment, calls_of}
+use Words.ops
+use Rattle.air_kit.specs.MainTuples.{kernel_asked}
+use Rattle.complete_rows.proofs.BlockLemmas.{op_same}
 use Rattle.complete_requests.proofs.Following.{events_ask}
 use Rattle.complete_requests.proofs.MomentCells.{moment_cells}
-
-pub op_same : (a b : Op) → is_op a b ≡ true → a ≡ b
-op_same a b is = code_of-different a b (eqb-true (code_of a) (code_of b) is)
 
 syscall_opens : (op : Op) → is_op op ops.Syscall ≡ true → is_ordinary_op op ≡ false
 syscall_opens op is = rw (op_same op ops.Syscall is) refl

@@ -1,15 +1,11 @@
 -- What the left table asks are the tuples of the outputs below the sixteenth with its keys.
-use Rattle.std.proofs.Common.{◌≡◌, ℕ, suc, ◌+◌, List, [], ◌∷◌, length, map, drop, slice_index, slice_index_or, refl, sym, ap, ◌∙◌, arith}
-use Rattle.std.proofs.lemmas.List.{drop-drop, get_or-drop}
-use Rattle.std.specs.List.{slice_get}
-use Rattle.buses.specs.Counts.{counted, over_first, over_rows, total}
-use Rattle.buses.specs.declared.bus.Bus.TheVariants as bus
-use Rattle.buses.proofs.Counting.{total-front}
+use Rattle.complete_rows.proofs.Words
+use Words.{◌≡◌, ℕ, suc, ◌+◌, List, [], ◌∷◌, length, map, drop, slice_index, slice_index_or, refl, sym, ap, ◌∙◌, arith, drop-drop, get_or-drop, slice_get}
+use Words.{counted, over_first, over_rows, total, total-front, cell_tuples, key_of, Claim}
+use Words.bus
+use Words.table
 use Rattle.facts_hasher.proofs.Totals.{total-same}
 use Rattle.air_kit.specs.ChipTuples.{chip_asked, left_asked, next_key}
-use Rattle.air_kit.specs.DeepCells.{cell_tuples, key_of}
-use Rattle.air_kit.specs.Places.{Claim}
-use Rattle.air_kit.specs.declared.trace.TableName.TheVariants as table
 use Rattle.chip_columns.specs.LeftColumns as left
 use Rattle.complete_requests.proofs.Chains.{hit}
 use Rattle.complete_requests.proofs.OverflowCells.{no_tuples, one_tuple}

@@ -1,15 +1,8 @@
 -- The clocks of a run's accesses grow, so that no two accesses are at one clock.
-use Rattle.std.proofs.Common.{◌≡◌, ℕ, zero, suc, ◌+◌, ◌<◌, ◌≤◌, List, [], ◌∷◌, ◌++◌, length, slice_index_or, All, refl, sym, ap, subst, arith}
-use Rattle.std.proofs.lemmas.List.Elements.{All-cons, All-nil}
-use Rattle.vm_field.specs.Machine.{Core, State, WordMap}
-use Rattle.block_tree.specs.Steps.{Task}
-use Rattle.block_tree.proofs.AlongLemmas.{cycle-clock}
-use Rattle.air_kit.specs.declared.requests.Access.{Access}
-use Rattle.machine_cycles.specs.declared.event.Event.{Event}
-use Rattle.complete_rows.specs.Chains as chains
-use Rattle.complete_rows.specs.Chains.{AreLinked}
-use Rattle.complete_rows.specs.Decoder.{Decoder}
-use Rattle.complete_rows.specs.RunRequests.{accesses_of}
+use Rattle.complete_rows.proofs.Words
+use Words.{◌≡◌, ℕ, zero, suc, ◌+◌, ◌<◌, ◌≤◌, List, [], ◌∷◌, ◌++◌, length, slice_index_or, All, refl, sym, ap, subst, arith, All-cons, All-nil, Core, State}
+use Words.{WordMap, Task, cycle-clock, Access, Event, AreLinked, Decoder, accesses_of}
+use Words.chains
 use Rattle.complete_requests.proofs.MemorySteps as steps
 use Rattle.complete_requests.proofs.MemorySteps.{Leaves, mark_leaves}
 

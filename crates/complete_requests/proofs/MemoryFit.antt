@@ -1,19 +1,11 @@
 -- The accesses of a run fit: each shows the word that those before it leave.
-use Rattle.std.proofs.Common.{◌≡◌, ℕ, ◌+◌, ◌^◌, ◌<◌, ◌≤◌, List, [], ◌∷◌, ◌++◌, All, sym, ap, subst, unwrap_or, arith}
-use Rattle.std.proofs.lemmas.List.{append_assoc, append-nil}
-use Rattle.std.proofs.lemmas.List.Elements.{All-append, All-cons, All-nil}
+use Rattle.complete_rows.proofs.Words
+use Words.{◌≡◌, ℕ, ◌+◌, ◌^◌, ◌<◌, ◌≤◌, List, [], ◌∷◌, ◌++◌, All, sym, ap, subst, unwrap_or, arith, append_assoc, append-nil, All-append, All-cons, All-nil}
+use Words.{Core, State, WordMap, start, word_at, zero_word, op_of_mark, Task, cycle-clock, Access, Event, AreLinked, Decoder, accesses_by, accesses_of}
+use Words.chains
 use Rattle.std.specs.FinMap.{get-empty}
-use Rattle.vm_field.specs.Machine.{Core, State, WordMap, place_cmp, start, word_at, zero_word}
-use Rattle.block_tree.specs.Rows.{op_of_mark}
-use Rattle.block_tree.specs.Steps.{Task}
-use Rattle.block_tree.proofs.AlongLemmas.{cycle-clock}
+use Rattle.vm_field.specs.Machine.{place_cmp}
 use Rattle.air_kit.specs.Requests.{FitsMemory}
-use Rattle.air_kit.specs.declared.requests.Access.{Access}
-use Rattle.machine_cycles.specs.declared.event.Event.{Event}
-use Rattle.complete_rows.specs.Chains as chains
-use Rattle.complete_rows.specs.Chains.{AreLinked}
-use Rattle.complete_rows.specs.Decoder.{Decoder}
-use Rattle.complete_rows.specs.RunRequests.{accesses_by, accesses_of}
 use Rattle.complete_rows.proofs.MomentFacts.{moment_event}
 use Rattle.complete_requests.proofs.MemoryClocks.{Rising, clocks_rise, none_before}
 use Rattle.complete_requests.proofs.MemorySteps as steps

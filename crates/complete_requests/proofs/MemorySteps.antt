@@ -1,20 +1,9 @@
 -- What a cycle does to memory is what its access says.
-use Rattle.std.proofs.Common.{◌≡◌, ℕ, ◌≤◌, true, List, [], ◌∷◌, drop, slice_index, None, unwrap_or, refl, sym, ap, ◌∙◌, arith, lit<, lit≤}
-use Rattle.std.proofs.lemmas.List.{get_or-take}
-use Rattle.vm_field.specs.Machine.{Core, State, WordMap, word_at}
-use Rattle.vm_ops.specs.Codes.{accesses_memory}
-use Rattle.vm_ops.specs.Step.{memory_with}
-use Rattle.vm_ops.specs.Stepping.{seen_at}
-use Rattle.vm_ops.specs.Values.{Seen, written}
-use Rattle.vm_ops.specs.declared.op.Op.{Op}
-use Rattle.vm_ops.specs.declared.op.Op.TheVariants as ops
-use Rattle.block_tree.specs.Cycles.{Mark, Do, top}
-use Rattle.block_tree.specs.Rows.{op_of_mark}
-use Rattle.block_tree.specs.Steps.{IsCycle}
-use Rattle.air_kit.specs.declared.requests.Access.{Access}
-use Rattle.machine_cycles.specs.declared.event.Event.{Event}
-use Rattle.complete_rows.specs.Moments.{event_at}
-use Rattle.complete_rows.specs.RunRequests.{accesses_by}
+use Rattle.complete_rows.proofs.Words
+use Words.{◌≡◌, ℕ, ◌≤◌, true, List, [], ◌∷◌, drop, slice_index, None, unwrap_or, refl, sym, ap, ◌∙◌, arith, lit<, get_or-take, Core, State, WordMap, word_at}
+use Words.{accesses_memory, memory_with, seen_at, Seen, written, Op, Mark, Do, top, op_of_mark, IsCycle, Access, Event, event_at, accesses_by}
+use Words.ops
+use Rattle.std.proofs.Common.{lit≤}
 use Rattle.complete_rows.proofs.MomentFacts.{core_after}
 use Rattle.complete_requests.proofs.AccessWords.{event_word, memory_behind, word_elsewhere, word_here}
 use Rattle.complete_requests.proofs.MemoryWords.{IsAt}

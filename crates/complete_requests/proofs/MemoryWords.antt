@@ -1,14 +1,12 @@
 -- The word that the accesses so far leave at a place, and that it is the word before the next access there.
-use Rattle.std.proofs.Common.{◌≡◌, ◌⊎◌, inl, inr, ℕ, ◌-◌, ◌<◌, ◌≤◌, List, [], ◌∷◌, ◌++◌, length, slice_index_or, All, refl, sym, ap, ap₂, ◌∙◌, subst, arith, length-append}
-use Rattle.std.proofs.lemmas.Bool.{cases_lt}
-use Rattle.std.proofs.lemmas.List.{get_or_append_left, get_or-append_right, get_or_past}
+use Rattle.complete_rows.proofs.Words
+use Words.{◌≡◌, ◌⊎◌, inl, inr, ℕ, ◌-◌, ◌<◌, ◌≤◌, List, [], ◌∷◌, ◌++◌, length, slice_index_or, All, refl, sym, ap, ap₂, ◌∙◌, subst, arith, length-append}
+use Words.{cases_lt, get_or_append_left, get_or_past, All-append, All-cons, All-nil, zero_word, Access}
+use Rattle.std.proofs.lemmas.List.{get_or-append_right}
 use Rattle.std.proofs.Math.Seq.{get_or-append_seam}
-use Rattle.std.proofs.lemmas.List.Elements.{All-append, All-cons, All-nil}
-use Rattle.vm_field.specs.Machine.{zero_word}
 use Rattle.vm_field.proofs.Places.{same_place}
 use Rattle.air_kit.specs.Requests as requests
 use Rattle.air_kit.specs.Requests.{IsWordBefore}
-use Rattle.air_kit.specs.declared.requests.Access.{Access}
 
 abbrev pub IsAt : Access → ℕ → ℕ → Type 0
 IsAt a context address = (a.ctx ≡ context) × (a.addr ≡ address)

@@ -1,21 +1,8 @@
 -- What a moment's row and the row behind it show of hashes.
-use Rattle.std.proofs.Common.{◌≡◌, ℕ, ◌<◌, false, List, ◌∷◌, length, slice_index, sym, ◌∙◌, arith, lit<}
-use Rattle.std.proofs.lemmas.List.{ext_get_or}
-use Rattle.vm_field.specs.Machine.{Core}
-use Rattle.vm_ops.specs.Codes.{is_ordinary_op}
-use Rattle.vm_table.specs.MainColumns.{h}
-use Rattle.block_tree.specs.Cycles.{Mark, Do}
-use Rattle.block_tree.specs.Marks.{IsWholeMark}
-use Rattle.block_tree.specs.Rows.{hash_of, op_of_mark}
-use Rattle.block_tree.proofs.RowLemmas.{hash-batch}
-use Rattle.air_kit.specs.MainTuples.{eight}
-use Rattle.machine_cycles.specs.Events.{shown_between}
-use Rattle.facts_main.proofs.Says.{never}
-use Rattle.complete_rows.specs.Decoder.{Decoder, advance}
-use Rattle.complete_rows.specs.Filling.{hash_by}
-use Rattle.vm_ops.specs.Codes.{kind_of}
-use Rattle.complete_rows.specs.Moments.{IsMoment}
-use Rattle.complete_rows.proofs.ColumnLemmas.{below_eight}
+use Rattle.complete_rows.proofs.Words
+use Words.{◌≡◌, ℕ, ◌<◌, false, List, ◌∷◌, length, slice_index, sym, ◌∙◌, arith, lit<, ext_get_or, Core, is_ordinary_op, h, Mark, Do, IsWholeMark, hash_of}
+use Words.{op_of_mark, hash-batch, eight, shown_between, never, Decoder, advance, hash_by, kind_of, IsMoment}
+use Rattle.complete_rows.proofs.ColumnLemmas.{below_by}
 use Rattle.complete_rows.proofs.LineLemmas.{ha_low, next_low}
 use Rattle.complete_rows.proofs.MomentFacts.{advice_of, moment_behind, moment_event, moment_hash, moment_op, moment_shows, place_shows}
 use Rattle.complete_requests.proofs.HasherBus.{IsLow}
@@ -25,8 +12,19 @@ use Rattle.complete_requests.proofs.HasherSteps.{Cells}
 eight_are : (xs x : List ℕ) → length xs ≡ 8 → ((j : ℕ) → j < 8 → h x j ≡ slice_index xs j) → eight x ≡ xs
 eight_are xs x size cells =
     ext_get_or 0 (eight x) xs (sym size)
-    (below_eight (λ j. slice_index (eight x) j ≡ slice_index xs j) (cells 0 (lit< tt)) (cells 1 (lit< tt)) (cells 2 (lit< tt)) (cells 3 (lit< tt))
-    (cells 4 (lit< tt)) (cells 5 (lit< tt)) (cells 6 (lit< tt)) (cells 7 (lit< tt)))
+    (below_by 8 (λ j. slice_index (eight x) j ≡ slice_index xs j) (
+      cells 0 (lit< tt),
+      (
+        cells 1 (lit< tt),
+        (
+          cells 2 (lit< tt),
+          (
+            cells 3 (lit< tt),
+            (cells 4 (lit< tt), (cells 5 (lit< tt), (cells 6 (lit< tt), (cells 7 (lit< tt), tt)))),
+          ),
+        ),
+      ),
+    ))
 
 -- a row of blocks shows the hash of its mark
 mark_hash : (mark : Mark) → IsWholeMark mark → (d : Decoder) (advice : List ℕ) (c b : Core) (x : List ℕ)

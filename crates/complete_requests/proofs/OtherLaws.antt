@@ -1,18 +1,7 @@
 -- The rows of a run ask on the buses of bitwise operations and of memory what its requests are.
-use Rattle.std.proofs.Common.{◌≡◌, ℕ, List, length, map, ap, arith}
-use Rattle.vm_field.specs.Limits.{number_of_constants}
-use Rattle.vm_field.specs.Machine.{State}
-use Rattle.block_tree.specs.Rows.{op_of_mark}
-use Rattle.block_tree.specs.Steps.{Task}
-use Rattle.buses.specs.Counts.{counted, over_rows, with_next}
-use Rattle.buses.proofs.Counting.{counted-none}
-use Rattle.air_kit.specs.MainTuples.{bitwise_asked, memory_asked}
-use Rattle.air_kit.specs.Requests.{access_given, bit_given}
-use Rattle.machine_cycles.specs.Events.{visible_of}
-use Rattle.machine_cycles.specs.declared.event.Event.{Event}
-use Rattle.complete_rows.specs.Chains.{AreLinked}
-use Rattle.complete_rows.specs.Decoder.{Decoder}
-use Rattle.complete_rows.specs.RunRequests.{accesses_by, accesses_of, bits_by, bits_of}
+use Rattle.complete_rows.proofs.Words
+use Words.{◌≡◌, ℕ, List, length, map, ap, arith, number_of_constants, State, op_of_mark, Task, counted, over_rows, with_next, counted-none, bitwise_asked}
+use Words.{memory_asked, access_given, bit_given, visible_of, Event, AreLinked, Decoder, accesses_by, accesses_of, bits_by, bits_of}
 use Rattle.complete_requests.proofs.AccessRows.{row_accesses}
 use Rattle.complete_requests.proofs.BitRows.{row_bits}
 use Rattle.complete_rows.proofs.MomentFacts.{moment_event}

@@ -1,18 +1,10 @@
 -- How the cells below the sixteenth and their keys move.
-use Rattle.std.proofs.Common.{if◌then◌else◌, ◌≡◌, ℕ, ◌+◌, ◌≤◌, false, cond, eqb, ◌||◌, ◌&&◌, ◌==◌, List, [], ◌∷◌, length, drop, slice_index, refl, sym, ap, ◌∙◌, arith}
-use Rattle.std.proofs.lemmas.Bool.{ne_eqb}
-use Rattle.std.proofs.lemmas.List.{drop-drop, get_or-drop}
-use Rattle.vm_field.specs.Machine.{filled_up}
-use Rattle.vm_ops.specs.declared.op.Op.{Op}
-use Rattle.vm_ops.specs.declared.op.Op.TheVariants as ops
-use Rattle.vm_ops.proofs.FrameLemmas.{drop-filled_up, index-filled_up}
-use Rattle.vm_table.specs.MainColumns.{clk, depth, h, key, s}
-use Rattle.buses.specs.Counts.{Counted, counted, once}
-use Rattle.buses.proofs.Counting.{counted-none, counted-append}
-use Rattle.air_kit.specs.DeepCells.{cell_tuples, key_of}
-use Rattle.air_kit.specs.Flags as flags
-use Rattle.air_kit.specs.Flags.{is_left, is_op, is_right}
-use Rattle.air_kit.specs.MainTuples.{overflow_asked, overflow_given}
+use Rattle.complete_rows.proofs.Words
+use Words.{if◌then◌else◌, ◌≡◌, ℕ, ◌+◌, ◌≤◌, false, cond, eqb, ◌||◌, ◌&&◌, ◌==◌, List, [], ◌∷◌, length, drop, slice_index, refl, sym, ap, ◌∙◌, arith, ne_eqb}
+use Words.{drop-drop, get_or-drop, filled_up, Op, drop-filled_up, index-filled_up, clk, depth, h, key, s, Counted, counted, once, counted-none, counted-append}
+use Words.{cell_tuples, key_of, is_left, is_op, is_right, overflow_asked, overflow_given}
+use Words.ops
+use Words.flags
 use Rattle.complete_requests.proofs.Chains.{hit}
 
 -- ---- the tuples of cells

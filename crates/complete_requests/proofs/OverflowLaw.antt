@@ -1,21 +1,10 @@
 -- What the inputs and the rows of a run give of overflow is what the rows and the cells that are left ask.
-use Rattle.std.proofs.Common.{◌≡◌, ℕ, ◌+◌, ◌-◌, List, [], ◌∷◌, ◌++◌, length, map, drop, refl, sym, ap, ◌∙◌, subst, arith, lit<}
-use Rattle.std.proofs.lemmas.List.{length-drop}
-use Rattle.vm_field.specs.Limits.{number_of_constants}
-use Rattle.vm_field.specs.Machine.{State, start}
-use Rattle.block_tree.specs.Steps.{Block, IsCycle}
-use Rattle.block_tree.specs.Trees.{Tree}
-use Rattle.block_tree.proofs.KeptLemmas.{cycle-step}
-use Rattle.buses.specs.Counts.{counted, over_rows, with_next}
-use Rattle.vm_ops.proofs.FrameLemmas.{drop-filled_up, step-below}
-use Rattle.air_kit.specs.DeepCells.{cell_tuples, keys_at_start}
-use Rattle.air_kit.specs.MainTuples.{overflow_asked, overflow_given}
+use Rattle.complete_rows.proofs.Words
+use Words.{◌≡◌, ℕ, ◌+◌, ◌-◌, List, [], ◌∷◌, ◌++◌, length, map, drop, refl, sym, ap, ◌∙◌, subst, arith, lit<, length-drop, number_of_constants, State, start}
+use Words.{Block, IsCycle, Tree, cycle-step, counted, over_rows, with_next, drop-filled_up, cell_tuples, keys_at_start, overflow_asked, overflow_given, Event}
+use Words.{filled, keys_of, AreLinked, advance, at_start, decoder_after, IsMoment}
+use Rattle.vm_ops.proofs.FrameLemmas.{step-below}
 use Rattle.chip_columns.specs.LeftColumns as left
-use Rattle.machine_cycles.specs.declared.event.Event.{Event}
-use Rattle.complete_rows.specs.BlockRows.{filled, keys_of}
-use Rattle.complete_rows.specs.Chains.{AreLinked}
-use Rattle.complete_rows.specs.Decoder.{advance, at_start, decoder_after}
-use Rattle.complete_rows.specs.Moments.{IsMoment}
 use Rattle.complete_rows.proofs.ChainLemmas.{bus_balanced}
 use Rattle.complete_rows.proofs.MomentFacts.{advice_of, core_after, moment_allowed, moment_behind, moment_event, moment_op, moment_shows, place_shows}
 use Rattle.complete_rows.proofs.TableLemmas.{linked}
@@ -32,7 +21,7 @@ module _ {constants : List ℕ} (len : length constants ≡ number_of_constants)
   moment_even m =
       let here = moment_shows m in
       let there = place_shows m.next in
-      overflow_step kernel (advice_of m) v m.first m.d m.later m.todo (moment_behind m) m.t.core.stack m.whole (moment_allowed m)
+      overflow_step kernel (advice_of m) v m.d m.later m.todo (moment_behind m) m.t.core.stack m.first m.whole (moment_allowed m)
       (ap (λ c. c.stack) (core_after m.cycle))
       (λ item is. step-below constants item m.s m.t len m.before
       (cycle-step constants kernel limit item m.s m.t (subst (λ mark. IsCycle constants kernel limit mark m.s m.t) is m.cycle)))

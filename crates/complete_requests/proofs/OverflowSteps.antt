@@ -1,25 +1,12 @@
 -- What a cycle gives and was owed of overflow is what it asks and what is owed behind it.
-use Rattle.std.proofs.Common.{◌≡◌, ℕ, ◌+◌, ◌≤◌, ◌||◌, true, false, cond, eqb, List, [], ◌∷◌, ◌++◌, length, drop, slice_index, refl, sym, ap, ap₂, ◌∙◌, arith}
-use Rattle.std.proofs.lemmas.List.{drop-drop, drop_at}
-use Rattle.vm_field.specs.Machine.{Core, filled_up}
-use Rattle.vm_ops.specs.Codes.{is_ordinary_op}
-use Rattle.vm_ops.specs.Moves.{shift_of}
-use Rattle.vm_ops.specs.Stepping.{ShiftedBelow}
-use Rattle.vm_ops.specs.declared.op.Op.{Op}
-use Rattle.vm_ops.specs.declared.op.Op.TheVariants as ops
-use Rattle.vm_ops.specs.declared.op.Shift.{Shift}
-use Rattle.vm_ops.specs.declared.op.Shift.TheVariants.{Left, Stay, Right}
-use Rattle.vm_table.specs.MainColumns.{clk, depth, h, key, s}
-use Rattle.block_tree.specs.Cycles.{Mark}
-use Rattle.block_tree.specs.Rows.{hash_of, op_of_mark}
-use Rattle.block_tree.specs.Steps.{Task, Block, Within, Turned, Closing, Returning, Leaving}
-use Rattle.buses.specs.Counts.{counted}
-use Rattle.buses.proofs.Counting.{counted-none}
-use Rattle.air_kit.specs.DeepCells.{cell_tuples, key_of}
-use Rattle.air_kit.specs.Flags as flags
-use Rattle.air_kit.specs.Flags.{is_left, is_op, is_right, is_shift}
-use Rattle.air_kit.specs.MainTuples.{eight, overflow_asked, overflow_given}
-use Rattle.complete_rows.specs.Decoder.{Decoder, Open, hidden_of, keys_after, keys_behind}
+use Rattle.complete_rows.proofs.Words
+use Words.{◌≡◌, ℕ, ◌+◌, ◌≤◌, ◌||◌, true, false, cond, eqb, List, [], ◌∷◌, ◌++◌, length, drop, slice_index, refl, sym, ap, ap₂, ◌∙◌, arith, drop-drop, Core}
+use Words.{filled_up, is_ordinary_op, shift_of, ShiftedBelow, Op, Shift, Left, Stay, Right, clk, depth, h, key, s, Mark, hash_of, op_of_mark, Task, Block}
+use Words.{Returning, Leaving, counted, counted-none, cell_tuples, key_of, is_left, is_op, is_right, is_shift, eight, overflow_asked}
+use Words.{overflow_given, Decoder, Open, hidden_of, keys_after, keys_behind}
+use Words.ops
+use Words.flags
+use Rattle.std.proofs.lemmas.List.{drop_at}
 use Rattle.complete_rows.proofs.AgreeLemmas.{end_keys, has_flags}
 use Rattle.complete_requests.proofs.Chains.{hit}
 use Rattle.complete_requests.proofs.OverflowCells.{asked_by, no_tuples, given_by, no_keys, popped_cells, pops, pushes, taken_cell}
@@ -28,11 +15,9 @@ use Rattle.complete_requests.proofs.OverflowCells.{asked_by, no_tuples, given_by
 abbrev pub hidden : List Task → List Open → List ℕ → ℕ
 hidden [] blocks v = 0
 hidden (Block tree ∷ todo) blocks v = hidden todo blocks v
-hidden (Within items later digest ∷ todo) blocks v = hidden todo (drop 1 blocks) v
-hidden (Turned body ∷ todo) blocks v = hidden todo (drop 1 blocks) v
-hidden (Closing digest ∷ todo) blocks v = hidden todo (drop 1 blocks) v
 hidden (Returning digest frame ∷ todo) blocks v = counted (cell_tuples (hidden_of blocks) frame.hidden) v + hidden todo (drop 1 blocks) v
 hidden (Leaving digest frame ∷ todo) blocks v = counted (cell_tuples (hidden_of blocks) frame.hidden) v + hidden todo (drop 1 blocks) v
+hidden (task ∷ todo) blocks v = hidden todo (drop 1 blocks) v
 
 -- what is still to be asked: the cells below the sixteenth, and those that calls hide
 abbrev pub owed_cells : List ℕ → List Task → Decoder → List ℕ → ℕ

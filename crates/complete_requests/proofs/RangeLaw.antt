@@ -1,26 +1,11 @@
 -- The rows of a run ask on the range's bus its limbs, and how many more blocks may nest in each block that starts.
-use Rattle.std.proofs.Common.{◌≡◌, ℕ, suc, ◌+◌, ◌-◌, ◌<◌, ◌≤◌, Bool, true, false, cond, List, [], ◌∷◌, ◌++◌, length, map, slice_index, refl, sym, ap, ◌∙◌, arith}
-use Rattle.std.proofs.lemmas.List.{get_or_append_left}
-use Rattle.vm_field.specs.Machine.{State}
-use Rattle.vm_field.specs.Signs.{◌⊟◌}
-use Rattle.vm_ops.specs.Codes.{is_start_op}
-use Rattle.vm_ops.specs.declared.op.Op.{Op}
-use Rattle.vm_ops.specs.declared.op.Op.TheVariants as ops
-use Rattle.vm_table.specs.MainColumns.{lv, t}
-use Rattle.block_tree.specs.Rows.{op_of_mark}
-use Rattle.block_tree.specs.Steps.{Task}
-use Rattle.buses.specs.Counts.{Counted, counted, once, over_rows, with_next}
-use Rattle.buses.proofs.Counting.{counted-none}
-use Rattle.air_kit.specs.MainTuples.{limbs_from, range_asked}
-use Rattle.air_kit.specs.MainTuples as tuples
-use Rattle.machine_cycles.specs.Events.{visible_of}
-use Rattle.machine_cycles.specs.declared.event.Event.{Event}
-use Rattle.machine_cycles.specs.declared.event.Visible.{Visible}
-use Rattle.complete_rows.specs.Chains.{AreLinked}
-use Rattle.complete_rows.specs.Decoder.{Decoder}
-use Rattle.complete_rows.specs.Limbs.{limbs_by, limbs_of, word_rest}
-use Rattle.complete_rows.specs.Moments.{IsMoment}
-use Rattle.complete_rows.specs.RunRequests.{ranges_by, ranges_of}
+use Rattle.complete_rows.proofs.Words
+use Words.{◌≡◌, ℕ, suc, ◌+◌, ◌-◌, ◌<◌, ◌≤◌, Bool, true, false, cond, List, [], ◌∷◌, ◌++◌, length, map, slice_index, refl, sym, ap, ◌∙◌, arith}
+use Words.{get_or_append_left, State, ◌⊟◌, is_start_op, Op, lv, t, op_of_mark, Task, Counted, counted, once, over_rows, with_next, counted-none, range_asked}
+use Words.{visible_of, Event, Visible, AreLinked, Decoder, limbs_by, limbs_of, word_rest, IsMoment, ranges_by, ranges_of}
+use Words.ops
+use Words.tuples
+use Rattle.air_kit.specs.MainTuples.{limbs_from}
 use Rattle.complete_rows.proofs.MomentFacts.{moment_event, moment_limb, moment_op, place_shows}
 use Rattle.complete_requests.proofs.Following.{events_ask, map_counts, seen_is, small_is}
 
@@ -39,11 +24,11 @@ limbs_are x (n ∷ xs) j cells =
     rw (here, later) refl
 
 -- an operation has as many limbs as its row shows
-count_limbs : (op : Op) (x y : Visible) → length (limbs_by op x y) ≡ tuples.count_of_limbs op
+pub count_limbs : (op : Op) (x y : Visible) → length (limbs_by op x y) ≡ tuples.count_of_limbs op
 count_limbs ops.Noop x y = refl
 count_limbs op x y = refl
 
-few_limbs : (op : Op) → tuples.count_of_limbs op ≤ 10
+pub few_limbs : (op : Op) → tuples.count_of_limbs op ≤ 10
 few_limbs ops.Noop = omega arith
 few_limbs op = omega arith
 

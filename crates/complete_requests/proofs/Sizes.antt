@@ -1,23 +1,12 @@
 -- How many requests a run has: each cycle asks for one permutation, bitwise operation or access at most, where a span's further batches
 -- are asked for by their RESPANs.
-use Rattle.std.proofs.Common.{◌≡◌, ℕ, ◌+◌, ◌≤◌, false, List, [], ◌∷◌, length, arith, length-append}
-use Rattle.vm_field.specs.Limits.{most_cycles, most_inputs}
-use Rattle.vm_field.specs.Machine.{State}
-use Rattle.vm_field.specs.Sponge.{begun}
-use Rattle.vm_ops.specs.Codes.{code_of}
-use Rattle.vm_ops.specs.declared.op.Op.{Op}
-use Rattle.vm_ops.specs.declared.op.Op.TheVariants as ops
-use Rattle.block_tree.specs.Steps.{Task}
-use Rattle.machine_cycles.specs.declared.event.Event.{Event}
-use Rattle.machine_cycles.specs.declared.event.Visible.{Visible}
-use Rattle.complete_rows.specs.Chains as chains
-use Rattle.complete_rows.specs.Chains.{AreLinked}
-use Rattle.complete_rows.specs.Decoder.{Decoder, decoder_after}
-use Rattle.vm_ops.specs.declared.kind.Kind.TheVariants as kinds
-use Rattle.vm_ops.specs.declared.kind.Kind.{Kind}
-use Rattle.vm_ops.specs.Codes.{kind_of}
-use Rattle.complete_rows.specs.RunRequests.{accesses_by, accesses_of, bits_by, bits_of, hash_perms, perms_by, perms_by_op, perms_of}
-use Rattle.complete_rows.specs.Turns.{respans, respans_by}
+use Rattle.complete_rows.proofs.Words
+use Words.{◌≡◌, ℕ, ◌+◌, ◌≤◌, false, List, [], ◌∷◌, length, arith, length-append, most_cycles, most_inputs, State, begun, Op, Task, Event, Visible}
+use Words.{AreLinked, Decoder, decoder_after, Kind, kind_of, accesses_by, accesses_of, bits_by, bits_of, hash_perms, perms_by, perms_by_op, perms_of, respans}
+use Words.{respans_by}
+use Words.ops
+use Words.chains
+use Words.kinds
 use Rattle.complete_requests.proofs.Chains.{length_chain}
 
 -- a cycle's own permutations
@@ -38,15 +27,13 @@ perms_few : (constants : List ℕ) (k : Kind) (e : Event) (later : List Event)
     → length (perms_by k constants e later) + length (respans_by k e.hash (respans later))
     ≤ length (respans later) + own k (length (perms_by_op e.op e.before))
 perms_few constants kinds.Ordinary e later = omega arith
-perms_few constants kinds.Join e later = one_chain constants (code_of ops.Join) e.hash (length (respans later))
-perms_few constants kinds.Split e later = one_chain constants (code_of ops.Split) e.hash (length (respans later))
-perms_few constants kinds.Loop e later = one_chain constants (code_of ops.Loop) e.hash (length (respans later))
 perms_few constants kinds.Span e later =
     let size = length_chain constants (begun 0) false (e.hash ∷ respans later) in omega (arith, size)
-perms_few constants kinds.Call e later = one_chain constants (code_of ops.Call) e.hash (length (respans later))
-perms_few constants kinds.Syscall e later = one_chain constants (code_of ops.Syscall) e.hash (length (respans later))
-perms_few constants kinds.Dyn e later = one_chain constants (code_of ops.Dyn) e.hash (length (respans later))
-perms_few constants kind e later = omega arith
+perms_few constants kinds.End e later = omega arith
+perms_few constants kinds.Repeat e later = omega arith
+perms_few constants kinds.Respan e later = omega arith
+perms_few constants kinds.Halt e later = omega arith
+perms_few constants kind e later = one_chain constants _ e.hash (length (respans later))
 
 pub requests_few : (constants : List ℕ) (events : List Event)
     → length (perms_of constants events) + length (bits_of events) + length (accesses_of events) + length (respans events) ≤ length events

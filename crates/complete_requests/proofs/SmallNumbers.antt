@@ -1,31 +1,16 @@
 -- The operands and addresses that the rows of a run ask for have 32 bits: their operations trap otherwise.
-use Rattle.std.proofs.Common.{All, ◌≡◌, ℕ, ◌^◌, ◌<◌, Bool, true, false, List, [], ◌∷◌, length, slice_index, None, refl, subst, arith}
-use Rattle.std.proofs.lemmas.Bool.{ltb-true}
-use Rattle.std.proofs.lemmas.List.Elements.{All-append, All-cons, All-nil}
-use Rattle.vm_field.specs.Machine.{State}
-use Rattle.vm_ops.specs.Stepping.{seen_at}
-use Rattle.vm_ops.specs.Values.{Seen, address, cell, is_u32, trap_of, two_u32, unless}
+use Rattle.complete_rows.proofs.Words
+use Words.{All, ◌≡◌, ℕ, ◌^◌, ◌<◌, Bool, true, false, List, [], ◌∷◌, length, slice_index, None, refl, subst, arith, ltb-true, All-append, All-cons, All-nil}
+use Words.{State, seen_at, Seen, Item, Op, stepped, Mark, Do, op_of_mark, IsCycle, Task, cycle-step, visible_of, Event, Visible, AreLinked, Decoder, event_at}
+use Words.{access, accesses_by, accesses_of, bits_by, bits_of}
+use Words.ops
+use Words.chains
+use Rattle.vm_ops.specs.Values.{address, cell, is_u32, trap_of, two_u32, unless}
 use Rattle.vm_ops.specs.declared.cause.Cause.{Cause}
 use Rattle.vm_ops.specs.declared.cause.Cause.TheVariants.{AddressRange}
-use Rattle.vm_ops.specs.declared.item.Item.{Item}
-use Rattle.vm_ops.specs.declared.op.Op.{Op}
-use Rattle.vm_ops.specs.declared.op.Op.TheVariants as ops
-use Rattle.vm_ops.proofs.StepLemmas.{stepped}
 use Rattle.vm_ops.proofs.ValueLemmas.{two_u32-fit}
-use Rattle.block_tree.specs.Cycles.{Mark, Do}
-use Rattle.block_tree.specs.Rows.{op_of_mark}
-use Rattle.block_tree.specs.Steps.{IsCycle, Task}
-use Rattle.block_tree.proofs.KeptLemmas.{cycle-step}
-use Rattle.machine_cycles.specs.Events.{visible_of}
-use Rattle.machine_cycles.specs.declared.event.Event.{Event}
-use Rattle.machine_cycles.specs.declared.event.Visible.{Visible}
-use Rattle.complete_rows.specs.Chains as chains
-use Rattle.complete_rows.specs.Chains.{AreLinked}
-use Rattle.complete_rows.specs.Decoder.{Decoder}
 use Rattle.complete_rows.specs.Limbs as shown
-use Rattle.complete_rows.specs.Moments.{event_at}
 use Rattle.complete_rows.specs.Numbers.{HasU32Address, HasU32Operands}
-use Rattle.complete_rows.specs.RunRequests.{access, accesses_by, accesses_of, bits_by, bits_of}
 
 -- ---- one operation
 

@@ -1,17 +1,11 @@
 -- The rows of a run take of the tape what the run takes.
-use Rattle.std.proofs.Common.{◌≡◌, ℕ, List, ◌∷◌, ◌++◌, length, take, drop, refl, sym, ap, ◌∙◌}
-use Rattle.std.proofs.lemmas.List.{append_assoc, take-append-drop}
-use Rattle.vm_field.specs.Limits.{number_of_constants}
-use Rattle.vm_field.specs.Machine.{State, start}
-use Rattle.block_tree.specs.Cycles.{advice_taken}
-use Rattle.block_tree.specs.Steps.{Task}
-use Rattle.air_kit.specs.Flags as flags
+use Rattle.complete_rows.proofs.Words
+use Words.{◌≡◌, ℕ, List, ◌∷◌, ◌++◌, length, take, drop, refl, sym, ap, ◌∙◌, append_assoc, number_of_constants, State, start, advice_taken, Task, Event}
+use Words.{AreLinked, Decoder, IsMoment}
+use Words.flags
+use Words.chains
+use Rattle.std.proofs.lemmas.List.{take-append-drop}
 use Rattle.air_kit.specs.RowStates.{tape_of, taken_by}
-use Rattle.machine_cycles.specs.declared.event.Event.{Event}
-use Rattle.complete_rows.specs.Chains as chains
-use Rattle.complete_rows.specs.Chains.{AreLinked}
-use Rattle.complete_rows.specs.Decoder.{Decoder}
-use Rattle.complete_rows.specs.Moments.{IsMoment}
 use Rattle.complete_rows.proofs.MomentFacts.{moment_op}
 use Rattle.complete_rows.proofs.TableLemmas.{linked}
 use Rattle.complete_requests.specs.Taken.{RunTakes}

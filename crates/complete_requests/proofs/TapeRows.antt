@@ -1,18 +1,10 @@
 -- The row behind an operation shows the elements that the operation takes of the tape.
-use Rattle.std.proofs.Common.{◌≡◌, ℕ, ◌≤◌, List, [], ◌∷◌, length, take, refl, ◌∙◌, arith, lit<}
-use Rattle.vm_field.specs.Limits.{number_of_constants}
-use Rattle.vm_field.specs.Machine.{State}
-use Rattle.vm_ops.specs.Step.{left_cells}
-use Rattle.vm_ops.specs.Stepping.{seen_at}
-use Rattle.vm_ops.specs.Values.{Seen, advice_of, computed}
-use Rattle.vm_ops.specs.declared.item.Item.{Item}
-use Rattle.vm_ops.specs.declared.op.Op.{Op}
-use Rattle.vm_ops.specs.declared.op.Op.TheVariants as ops
-use Rattle.vm_table.specs.MainColumns.{s}
-use Rattle.block_tree.specs.Cycles.{Mark, Do, advice_taken}
-use Rattle.block_tree.specs.Rows.{op_of_mark}
+use Rattle.complete_rows.proofs.Words
+use Words.{◌≡◌, ℕ, ◌≤◌, List, [], ◌∷◌, length, take, refl, ◌∙◌, arith, lit<, number_of_constants, State, left_cells, seen_at, Seen, computed, Item, Op, s, Mark}
+use Words.{Do, advice_taken, op_of_mark, IsMoment}
+use Words.ops
+use Rattle.vm_ops.specs.Values.{advice_of}
 use Rattle.air_kit.specs.RowStates.{taken_by}
-use Rattle.complete_rows.specs.Moments.{IsMoment}
 use Rattle.complete_requests.proofs.Tops.{ShowsTops, moment_tops}
 
 -- ADVPOP leaves one element on top, and ADVPOPW four with the last one on top
@@ -26,16 +18,13 @@ one_taken sn (a ∷ tape) y is enough tops =
 four_taken : (sn : Seen) (tape y : List ℕ) → sn.advice ≡ take 4 tape → 4 ≤ length tape → ShowsTops ops.AdvPopW sn y
     → s y 3 ∷ s y 2 ∷ s y 1 ∷ s y 0 ∷ [] ≡ take 4 tape
 unfolding left_cells computed
-four_taken sn [] y is enough tops = absurd (omega (arith, enough))
-four_taken sn (a ∷ []) y is enough tops = absurd (omega (arith, enough))
-four_taken sn (a ∷ b ∷ []) y is enough tops = absurd (omega (arith, enough))
-four_taken sn (a ∷ b ∷ c ∷ []) y is enough tops = absurd (omega (arith, enough))
 four_taken sn (a ∷ b ∷ c ∷ d ∷ tape) y is enough tops =
     let first : s y 0 ≡ d = tops 0 (lit< tt) ∙ rw is refl in
     let second : s y 1 ≡ c = tops 1 (lit< tt) ∙ rw is refl in
     let third : s y 2 ≡ b = tops 2 (lit< tt) ∙ rw is refl in
     let fourth : s y 3 ≡ a = tops 3 (lit< tt) ∙ rw is refl in
     rw (first, second, third, fourth) refl
+four_taken sn tape y is enough tops = absurd (omega (arith, enough))
 
 op_takes : (op : Op) (sn : Seen) (tape y : List ℕ) → sn.advice ≡ take (advice_of op) tape → advice_of op ≤ length tape → ShowsTops op sn y
     → taken_by op y ≡ take (advice_of op) tape

@@ -1,23 +1,11 @@
 -- The row behind an operation shows the cells that it leaves on top.
-use Rattle.std.proofs.Common.{◌≡◌, ℕ, ◌<◌, List, [], ◌∷◌, length, take, reverse, slice_index, sym, ap, ◌∙◌, subst, arith}
-use Rattle.std.proofs.lemmas.List.{ext_get_or, get_or-take}
-use Rattle.vm_field.specs.Limits.{number_of_constants}
-use Rattle.vm_ops.specs.Moves.{leaves_of}
-use Rattle.vm_ops.specs.Step.{left_cells}
-use Rattle.vm_ops.specs.Stepping.{seen_at}
-use Rattle.vm_ops.specs.Values.{Seen}
-use Rattle.vm_ops.specs.declared.item.Item.{Item}
-use Rattle.vm_ops.specs.declared.op.Op.{Op}
+use Rattle.complete_rows.proofs.Words
+use Words.{◌≡◌, ℕ, ◌<◌, List, [], ◌∷◌, length, take, reverse, slice_index, sym, ap, ◌∙◌, subst, arith, lit<, ext_get_or, get_or-take, number_of_constants}
+use Words.{leaves_of, left_cells, seen_at, Seen, Item, Op, stepped, s, Do, IsCycle, cycle-step, twelve, IsMoment}
 use Rattle.vm_ops.proofs.FrameLemmas.{index-left}
 use Rattle.vm_ops.proofs.MoveLemmas.{leaves_of-below}
-use Rattle.vm_ops.proofs.StepLemmas.{seen_at-sized, stepped}
-use Rattle.vm_table.specs.MainColumns.{s}
-use Rattle.block_tree.specs.Cycles.{Do}
-use Rattle.block_tree.specs.Steps.{IsCycle}
-use Rattle.block_tree.proofs.KeptLemmas.{cycle-step}
-use Rattle.air_kit.specs.MainTuples.{twelve}
-use Rattle.complete_rows.specs.Moments.{IsMoment}
-use Rattle.complete_rows.proofs.ColumnLemmas.{below_sixteen}
+use Rattle.vm_ops.proofs.StepLemmas.{seen_at-sized}
+use Rattle.complete_rows.proofs.ColumnLemmas.{below_by}
 use Rattle.complete_rows.proofs.MomentFacts.{moment_shows, place_shows}
 
 -- the cells that an operation leaves are on top of the row behind it
@@ -48,9 +36,31 @@ top_cells y =
 pub twelve_are : (xs y : List ℕ) → length xs ≡ 12 → ((j : ℕ) → j < 12 → s y j ≡ slice_index xs j) → twelve y ≡ reverse xs
 unfolding top_cells
 twelve_are xs y size f =
-    let P : ℕ → Type 0 = λ j. j < 12 → slice_index (top_cells y) j ≡ slice_index xs j in
-    ap reverse (ext_get_or 0 (top_cells y) xs (sym size) (λ j low.
-    below_sixteen (λ j. j < 12 → slice_index (top_cells y) j ≡ slice_index xs j) (f 0) (f 1) (f 2) (f 3) (f 4) (f 5) (f 6) (f 7)
-    (f 8) (f 9) (f 10) (f 11)
-    (λ h. absurd (omega (arith, h))) (λ h. absurd (omega (arith, h))) (λ h. absurd (omega (arith, h))) (λ h. absurd (omega (arith, h)))
-    j (omega (arith, low)) low))
+    ap reverse (ext_get_or 0 (top_cells y) xs (sym size) (below_by 12 (λ j. slice_index (top_cells y) j ≡ slice_index xs j) (
+      f 0 (lit< tt),
+      (
+        f 1 (lit< tt),
+        (
+          f 2 (lit< tt),
+          (
+            f 3 (lit< tt),
+            (
+              f 4 (lit< tt),
+              (
+                f 5 (lit< tt),
+                (
+                  f 6 (lit< tt),
+                  (
+                    f 7 (lit< tt),
+                    (
+                      f 8 (lit< tt),
+                      (f 9 (lit< tt), (f 10 (lit< tt), (f 11 (lit< tt), tt))),
+                    ),
+                  ),
+                ),
+              ),
+            ),
+          ),
+        ),
+      ),
+    )))

@@ -1,26 +1,14 @@
 -- The tasks, the decoder and the state agree behind each cycle as they do before it.
-use Rattle.std.proofs.Common.{◌≡◌, ◌≢◌, ℕ, zero, suc, ◌+◌, ◌-◌, ◌/◌, ◌%◌, ◌<◌, ◌≤◌, max, Bool, true, false, ◌||◌, eqb, cond, List, [], ◌∷◌, ◌++◌, length, take, drop, slice_index, Some, refl, sym, ap, ◌∙◌, arith, lit<, length-drop, length-take}
-use Rattle.std.proofs.lemmas.Bool.{ne_eqb}
-use Rattle.vm_field.specs.Field.{prime, AreElements}
-use Rattle.vm_field.specs.Machine.{filled_up}
-use Rattle.vm_field.proofs.Elements.{elements-drop, elements-index, elements-none, elements-take, length-filled_up}
-use Rattle.vm_ops.specs.Codes.{code_of, is_ordinary_op}
-use Rattle.vm_ops.specs.Items.{push_item}
-use Rattle.vm_ops.specs.declared.item.Item.{Item}
-use Rattle.vm_ops.specs.declared.op.Op.{Op}
-use Rattle.vm_ops.specs.declared.op.Op.TheVariants as ops
-use Rattle.vm_ops.specs.declared.op.Shift.{Shift}
-use Rattle.vm_ops.specs.declared.op.Shift.TheVariants.{Left, Stay, Right}
+use Rattle.complete_rows.proofs.Words
+use Words.{◌≡◌, ◌≢◌, ℕ, zero, suc, ◌+◌, ◌-◌, ◌/◌, ◌%◌, ◌<◌, ◌≤◌, max, Bool, true, false, ◌||◌, eqb, cond, List, [], ◌∷◌, ◌++◌, length, take, drop, slice_index}
+use Words.{Some, refl, sym, ap, ◌∙◌, arith, lit<, length-drop, length-take, ne_eqb, prime, AreElements, filled_up, elements-drop, elements-index, elements-none}
+use Words.{elements-take, length-filled_up, code_of, is_ordinary_op, push_item, Item, Op, Shift, Left, Stay, Right, IsBatch, positions_in_use, read_on, reading}
+use Words.{Task, Within, is_op, Event, ReadsOn, AreOutside, IsLowUnread, Decoder, hidden_of, keys_after}
+use Words.{keys_behind, advance, advance_by, Unread, nothing_unread, batch_begun, group_after, taken_from, kind_of}
+use Words.ops
+use Words.kinds
 use Rattle.vm_ops.proofs.MoveLemmas.{ByOne}
-use Rattle.op_pack.specs.Reading.{IsBatch, positions_in_use, read_on, reading}
-use Rattle.block_tree.specs.Steps.{Task, Block, Within, Turned, Closing, Returning, Leaving}
-use Rattle.air_kit.specs.Flags.{is_op}
-use Rattle.machine_cycles.specs.declared.event.Event.{Event}
-use Rattle.complete_rows.specs.Agreement.{ReadsOn, AreOutside, ReadsFirst, IsLowUnread}
-use Rattle.complete_rows.specs.Decoder.{Decoder, hidden_of, keys_after, keys_behind, advance, advance_by}
-use Rattle.complete_rows.specs.Groups.{Unread, nothing_unread, batch_begun, group_after, taken_from}
-use Rattle.vm_ops.specs.declared.kind.Kind.TheVariants as kinds
-use Rattle.vm_ops.specs.Codes.{kind_of}
+use Rattle.complete_rows.specs.Agreement.{ReadsFirst}
 use Rattle.vm_ops.proofs.CodeLemmas.{ordinary-kind}
 use Rattle.complete_rows.proofs.ReadingLemmas.{Takes, pushes, goes, opens, ends, takes, reads_some, reads_room}
 
@@ -130,12 +118,8 @@ low_taken b u h at =
 
 pub reads_outside : (todo : List Task) (u : Unread) → AreOutside todo → u ≡ nothing_unread → ReadsFirst todo u
 reads_outside [] u out e = e
-reads_outside (Block tree ∷ todo) u out e = (e, out.1)
 reads_outside (Within items later digest ∷ todo) u out e = absurd out.0
-reads_outside (Turned body ∷ todo) u out e = (e, out.1)
-reads_outside (Closing digest ∷ todo) u out e = (e, out.1)
-reads_outside (Returning digest frame ∷ todo) u out e = (e, out.1)
-reads_outside (Leaving digest frame ∷ todo) u out e = (e, out.1)
+reads_outside (task ∷ todo) u out e = (e, out.1)
 
 -- ---- what an END shows
 

@@ -1,29 +1,18 @@
 -- Behind each cycle the tasks, the decoder and the state agree as they do before it.
-use Rattle.std.proofs.Common.{◌≡◌, ℕ, ◌+◌, ◌-◌, ◌≤◌, ◌||◌, cond, eqb, List, [], ◌∷◌, ◌++◌, length, take, drop, refl, sym, ap, ◌∙◌, subst, arith, length-append, length-drop}
-use Rattle.vm_field.specs.Limits.{number_of_constants}
-use Rattle.vm_field.specs.Machine.{Core, State, IsWellFormed}
-use Rattle.vm_ops.specs.Moves.{takes_of, leaves_of, shift_of}
+use Rattle.complete_rows.proofs.Words
+use Words.{◌≡◌, ℕ, ◌+◌, ◌-◌, ◌≤◌, ◌||◌, cond, eqb, List, [], ◌∷◌, ◌++◌, length, take, drop, refl, sym, ap, ◌∙◌, subst, arith, length-append, length-drop}
+use Words.{number_of_constants, Core, State, IsWellFormed, takes_of, leaves_of, shift_of, Item, core_behind, IsAllowed, Mark, Do, advice_taken, effect_of}
+use Words.{event_of, IsWholeMark, behind, Loop, tree_digest, Task, Next, span, join, loop_0, call, syscall, dyn, operation, respan, span_ends, repeats}
+use Words.{loop_ends, closes, returns, leaves, IsCycle, behind-cycle, cycle-step, is_op, shown, shown_between, Event, Agrees, AreOutside, IsLowUnread, Decoder}
+use Words.{hidden_of, advance, nothing_unread}
+use Words.ops
 use Rattle.vm_ops.specs.Sizes.{depth_after}
-use Rattle.vm_ops.specs.declared.item.Item.{Item}
-use Rattle.vm_ops.specs.declared.op.Op.TheVariants as ops
 use Rattle.vm_ops.proofs.MoveLemmas.{shift_of-by_one, takes_of-below}
 use Rattle.vm_ops.proofs.StepLemmas.{step-depth}
-use Rattle.block_tree.specs.Behind.{core_behind, IsAllowed}
-use Rattle.block_tree.specs.Cycles.{Mark, Do, advice_taken, effect_of}
-use Rattle.block_tree.specs.Execution.{event_of}
-use Rattle.block_tree.specs.Marks.{IsWholeMark}
-use Rattle.block_tree.specs.Rows.{behind}
-use Rattle.block_tree.specs.Trees.{Loop, tree_digest}
-use Rattle.block_tree.specs.Steps.{Task, Next, span, join, loop_0, call, syscall, dyn, operation, respan, span_ends, repeats, loop_ends, closes, returns, leaves, IsCycle}
-use Rattle.block_tree.proofs.BehindLemmas.{behind-cycle}
-use Rattle.block_tree.proofs.KeptLemmas.{cycle-step}
-use Rattle.air_kit.specs.Flags.{is_op}
-use Rattle.machine_cycles.specs.Events.{shown, shown_between}
-use Rattle.machine_cycles.specs.declared.event.Event.{Event}
-use Rattle.complete_rows.specs.Agreement.{Agrees, AreOutside, Framed, IsLowUnread}
-use Rattle.complete_rows.specs.Decoder.{Decoder, hidden_of, closed, advance}
-use Rattle.complete_rows.specs.Groups.{nothing_unread}
-use Rattle.complete_rows.proofs.AgreeLemmas.{by_one, end_keys, hidden_depth, low_begun, low_taken, ordinary_advance, popped_depth, reads_begun, reads_next, reads_outside, taken_depth}
+use Rattle.complete_rows.specs.Agreement.{Framed}
+use Rattle.complete_rows.specs.Decoder.{closed}
+use Rattle.complete_rows.proofs.AgreeLemmas.{by_one, end_keys, hidden_depth, low_begun, low_taken, ordinary_advance, popped_depth, reads_begun, reads_next}
+use Rattle.complete_rows.proofs.AgreeLemmas.{reads_outside, taken_depth}
 
 -- the stack is as deep as an operation leaves it
 abbrev Deep : List ℕ → Mark → List ℕ → Core → Type 0

@@ -1,20 +1,13 @@
 -- A row that begins a batch shows how many positions are in use, and that no more are than need be.
-use Rattle.std.proofs.Common.{◌≡◌, ◌≢◌, ℕ, zero, suc, ◌+◌, ◌-◌, ◌/◌, ◌<◌, ◌≤◌, Bool, true, false, ◌&&◌, ◌==◌, eqb, cond, List, [], ◌∷◌, length, take, drop, slice_index, refl, sym, ap, ◌∙◌, subst, arith, lit<}
-use Rattle.std.proofs.lemmas.Bool.{and_parts, eqb-true, eqb-false}
-use Rattle.std.proofs.lemmas.List.{get_or-drop}
-use Rattle.vm_ops.specs.Values.{bit_of}
-use Rattle.vm_field.specs.Field.{prime, felt_inv}
-use Rattle.vm_field.specs.Signs.{◌⊞◌, ◌⊠◌}
-use Rattle.vm_field.proofs.Elements.{elements-index}
-use Rattle.vm_field.proofs.Inverses.{felt_mul-felt_inv}
-use Rattle.vm_table.specs.MainColumns.{c, h, w}
-use Rattle.op_pack.specs.Reading.{IsBatch, are_zero, positions_in_use}
-use Rattle.air_kit.specs.MainTuples.{positions}
+use Rattle.complete_rows.proofs.Words
+use Words.{◌≡◌, ◌≢◌, ℕ, zero, suc, ◌+◌, ◌-◌, ◌/◌, ◌<◌, ◌≤◌, Bool, true, false, ◌&&◌, ◌==◌, eqb, cond, List, [], ◌∷◌, length, take, drop, slice_index, refl, sym}
+use Words.{ap, ◌∙◌, subst, arith, lit<, eqb-true, get_or-drop, bit_of, prime, felt_inv, ◌⊞◌, ◌⊠◌, elements-index, felt_mul-felt_inv, c, h, w, IsBatch}
+use Words.{positions_in_use, positions, off, Line, laid_out}
+use Rattle.std.proofs.lemmas.Bool.{and_parts, eqb-false}
+use Rattle.op_pack.specs.Reading.{are_zero}
 use Rattle.facts_main.specs.Batches.{ShowsBatch}
-use Rattle.facts_main.proofs.Says.{off}
-use Rattle.complete_rows.specs.Lines.{Line, laid_out}
 use Rattle.complete_rows.specs.Witnesses.{batch_witnesses, first_inverse}
-use Rattle.complete_rows.proofs.ColumnLemmas.{col_c0, col_c1, col_c2, col_h, col_w}
+use Rattle.complete_rows.proofs.ColumnLemmas.{below_by, col_c0, col_c1, col_c2, col_h, col_w}
 
 -- how many positions are in use
 pub data InUse (batch : List ℕ) : ℕ → Type 0 where
@@ -49,25 +42,16 @@ unused_zero batch n q (two some h) low few size = zero_from batch 2 q h low
 unused_zero batch n q (four some h) low few size = zero_from batch 4 q h low
 unused_zero batch n q (eight some) low few size = absurd (omega (arith, low, few))
 
--- the flags say how many
-pub flags_count : (batch : List ℕ) (n : ℕ) → InUse batch n
-    → 1 ⊞ 7 ⊠ bit_of (n == 8) ⊞ 3 ⊠ bit_of (n == 4) ⊞ bit_of (n == 2) ≡ n
-flags_count batch n (one h) = refl
-flags_count batch n (two some h) = refl
-flags_count batch n (four some h) = refl
-flags_count batch n (eight some) = refl
+-- the flags of a row tell how many
+flags_count : {batch : List ℕ} {n : ℕ} → InUse batch n → (1 ⊞ 7 ⊠ bit_of (n == 8) ⊞ 3 ⊠ bit_of (n == 4) ⊞ bit_of (n == 2) ≡ n)
+    × (bit_of (n == 8) + bit_of (n == 4) + bit_of (n == 2) ≤ 1) × (1 ≤ n) × (n ≤ 8)
+flags_count (one h) = (refl, omega arith, omega arith, omega arith)
+flags_count (two some h) = (refl, omega arith, omega arith, omega arith)
+flags_count (four some h) = (refl, omega arith, omega arith, omega arith)
+flags_count (eight some) = (refl, omega arith, omega arith, omega arith)
 
-flags_most : (batch : List ℕ) (n : ℕ) → InUse batch n → bit_of (n == 8) + bit_of (n == 4) + bit_of (n == 2) ≤ 1
-flags_most batch n (one h) = omega arith
-flags_most batch n (two some h) = omega arith
-flags_most batch n (four some h) = omega arith
-flags_most batch n (eight some) = omega arith
-
-pub count_few : (batch : List ℕ) (n : ℕ) → InUse batch n → (1 ≤ n) × (n ≤ 8)
-count_few batch n (one h) = (omega arith, omega arith)
-count_few batch n (two some h) = (omega arith, omega arith)
-count_few batch n (four some h) = (omega arith, omega arith)
-count_few batch n (eight some) = (omega arith, omega arith)
+pub count_few : {batch : List ℕ} {n : ℕ} → InUse batch n → (1 ≤ n) × (n ≤ 8)
+count_few u = ((flags_count u).2, (flags_count u).3)
 
 -- ---- the first inverse
 
@@ -128,15 +112,9 @@ bit_most : (b : Bool) → bit_of b < 2
 bit_most true = omega arith
 bit_most false = omega arith
 
-below_three : (P : ℕ → Type 0) → P 0 → P 1 → P 2 → (j : ℕ) → j < 3 → P j
-below_three P p0 p1 p2 zero h = p0
-below_three P p0 p1 p2 (suc zero) h = p1
-below_three P p0 p1 p2 (suc (suc zero)) h = p2
-below_three P p0 p1 p2 (suc (suc (suc j))) h = absurd (omega (arith, h))
-
 pub positions_are : (batch x : List ℕ) → BatchCells batch x → positions x ≡ positions_in_use batch
 unfolding positions
-positions_are batch x cells = rw (cells.eight, cells.four, cells.two) (flags_count batch (positions_in_use batch) (in_use batch))
+positions_are batch x cells = rw (cells.eight, cells.four, cells.two) (flags_count (in_use batch)).0
 
 -- what the witnesses show, by how many positions are in use
 record HasWitnesses (n : ℕ) (batch : List ℕ) (ws : List ℕ) : Type 0 where
@@ -214,11 +192,12 @@ batch_row batch x b cells =
     let ws : HasWitnesses (positions_in_use batch) batch (batch_witnesses batch) = has_witnesses batch b in
     record {
       is_batch = record {
-        bits = below_three (λ j. c x j < 2) (rw cells.eight (bit_most (positions_in_use batch == 8)))
-            (rw cells.four (bit_most (positions_in_use batch == 4)))
-            (rw cells.two (bit_most (positions_in_use batch == 2)));
-        most = rw (cells.eight, cells.four, cells.two) (flags_most batch (positions_in_use batch) u);
-        room = rw count (count_few batch (positions_in_use batch) u).1;
+        bits = below_by 3 (λ j. c x j < 2) (
+          rw cells.eight (bit_most (positions_in_use batch == 8)),
+          (rw cells.four (bit_most (positions_in_use batch == 4)), (rw cells.two (bit_most (positions_in_use batch == 2)), tt)),
+        );
+        most = rw (cells.eight, cells.four, cells.two) (flags_count u).1;
+        room = rw count (flags_count u).3;
       };
       unused = λ q low few. cells.hash q few ∙ unused_zero batch (positions_in_use batch) q u (subst (λ k. k ≤ q) count low) few b.size;
       needed = record {

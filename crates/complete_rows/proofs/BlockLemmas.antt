@@ -1,26 +1,16 @@
 -- A row of a block, and what the row behind it keeps of the function, the frame pointer and the blocks.
-use Rattle.std.proofs.Common.{◌≡◌, ℕ, ◌+◌, ◌-◌, ◌^◌, ◌<◌, ◌≤◌, Bool, true, false, not, ◌||◌, eqb, List, [], ◌∷◌, ◌++◌, length, slice_index, None, refl, sym, ap, ◌∙◌, arith, lit<}
-use Rattle.std.proofs.lemmas.Bool.{ltb-true, ne_eqb}
-use Rattle.std.proofs.lemmas.List.{get_or_append_left}
-use Rattle.vm_field.specs.Limits.{most_cycles}
-use Rattle.vm_field.specs.Machine.{Core, zero_word}
-use Rattle.vm_field.specs.Signs.{◌⊞◌, ◌⊟◌}
-use Rattle.vm_ops.specs.Codes.{code_of, is_ordinary_op, is_start_op, kind_of}
-use Rattle.vm_ops.specs.Values.{Seen, fmp_after, trap_of, unless, bit_of}
+use Rattle.complete_rows.proofs.Words
+use Words.{◌≡◌, ℕ, ◌+◌, ◌-◌, ◌^◌, ◌<◌, ◌≤◌, Bool, true, false, not, ◌||◌, eqb, List, [], ◌∷◌, ◌++◌, length, slice_index, None, refl, sym, ap, ◌∙◌, arith, lit<}
+use Words.{eqb-true, ltb-true, ne_eqb, get_or_append_left, most_cycles, Core, zero_word, ◌⊞◌, ◌⊟◌, code_of, is_ordinary_op, is_start_op, kind_of, Seen, bit_of}
+use Words.{Op, h, s, sys, is_op, is_call_op, never, off, Decoder, address_of, Shows, ordinary-below}
+use Words.ops
+use Rattle.vm_ops.specs.Values.{fmp_after, trap_of, unless}
 use Rattle.vm_ops.specs.declared.cause.Cause.TheVariants.{NotInSyscall}
-use Rattle.vm_ops.specs.declared.op.Op.{Op}
-use Rattle.vm_ops.specs.declared.op.Op.TheVariants as ops
 use Rattle.vm_ops.proofs.FrameLemmas.{fmp_after-same}
-use Rattle.vm_table.specs.MainColumns.{h, s, sys}
-use Rattle.air_kit.specs.Flags.{is_op}
-use Rattle.air_kit.specs.MainTuples.{is_call_op}
 use Rattle.facts_main.specs.Blocks.{IsBlockRow, KeepsBlock, keeps_block, keeps_frame, level_after}
-use Rattle.facts_main.proofs.Says.{never, off}
-use Rattle.complete_rows.specs.Decoder.{Decoder, address_of}
-use Rattle.complete_rows.specs.Shows.{Shows}
 use Rattle.complete_rows.proofs.AgreeLemmas.{HasFlags, has_flags}
 use Rattle.complete_rows.proofs.ColumnLemmas.{below_four}
-use Rattle.vm_ops.proofs.CodeLemmas.{ordinary-below, ordinary-starts-none}
+use Rattle.vm_ops.proofs.CodeLemmas.{code_of-different, ordinary-starts-none}
 
 -- ---- an ordinary operation is none of blocks
 
@@ -58,6 +48,9 @@ no_block op is = record {
   respan = apart_from op ops.Respan is (omega arith);
   halt = apart_from op ops.Halt is (omega arith);
 }
+
+pub op_same : (a b : Op) → is_op a b ≡ true → a ≡ b
+op_same a b is = code_of-different a b (eqb-true (code_of a) (code_of b) is)
 
 -- ---- a row by itself
 
@@ -111,18 +104,18 @@ pub end_row : (digest : List ℕ) (i j k l : ℕ) (x : List ℕ) → length dige
 end_row digest i j k l x size hash most stops =
     let z = behind_digest digest i j k l x size hash in
     record {
-      condition = λ b. off b;
-      again = λ b. off b;
+      condition = off;
+      again = off;
       ends = λ b. record {
         bits = below_four (λ n. h x (4 + n) < 2) (omega (arith, z.0, most)) (omega (arith, z.1, most)) (omega (arith, z.2, most))
             (omega (arith, z.3, most));
         most = rw (z.0, z.1, z.2, z.3) most;
         stops = λ e. stops (sym z.0 ∙ e);
       };
-      single = λ b. off b;
-      outside = λ b. off b;
-      inside = λ b. off b;
-      closed = λ b. off b;
+      single = off;
+      outside = off;
+      inside = off;
+      closed = off;
     }
 
 -- a row of none of END, CALLER and HALT
@@ -188,13 +181,13 @@ pub ended_call : {next : Op} {x y : List ℕ} {d after : Decoder} {c b : Core} �
 ended_call {x = x} sx sy flags nesting =
     let ends : eqb (h x 6 ⊞ h x 7) 1 ≡ true = rw flags refl in
     record {
-      call = λ is. off is;
-      syscall = λ is. off is;
+      call = off;
+      syscall = off;
       function = λ is. never (sym is ∙ ap not ends);
       digest = λ is. never (sym is ∙ ap not ends);
       frame = λ is. never (sym is ∙ ap (λ t. not (t || false)) ends);
-      frame_moves = λ is. off is;
-      block = λ is. off is;
+      frame_moves = off;
+      block = off;
       level = sy.level ∙ nesting ∙ ap (level_after ops.End) (sym sx.level);
     }
 
@@ -211,12 +204,12 @@ entered_call callee {c = c} sx sy hash size early context frame syscall digest n
     digest = λ j low. sy.digest j low ∙ ap (λ v. slice_index v j) digest ∙ sym (get_or_append_left callee zero_word 0 j (rw size low))
         ∙ sym (hash j (omega (arith, low)));
   };
-  syscall = λ is. off is;
-  function = λ is. off is;
-  digest = λ is. off is;
-  frame = λ is. off is;
-  frame_moves = λ is. off is;
-  block = λ is. off is;
+  syscall = off;
+  function = off;
+  digest = off;
+  frame = off;
+  frame_moves = off;
+  block = off;
   level = sy.level ∙ nesting ∙ ap (level_after ops.Call) (sym sx.level);
 }
 
@@ -225,12 +218,12 @@ pub entered_syscall : {next : Op} {x y : List ℕ} {d after : Decoder} {c b : Co
     → b.context ≡ 0 → b.fmp ≡ 2 ^ 31 → b.in_syscall ≡ true → b.digest ≡ c.digest → b.nesting ≡ level_after ops.Syscall c.nesting
     → KeepsBlock ops.Syscall x y
 entered_syscall sx sy context frame syscall digest nesting = record {
-  call = λ is. off is;
+  call = off;
   syscall = λ is. record { context = sy.context ∙ context; frame = sy.frame ∙ frame; syscall = sy.syscall ∙ ap bit_of syscall };
-  function = λ is. off is;
+  function = off;
   digest = λ is j low. sy.digest j low ∙ ap (λ v. slice_index v j) digest ∙ sym (sx.digest j low);
-  frame = λ is. off is;
-  frame_moves = λ is. off is;
-  block = λ is. off is;
+  frame = off;
+  frame_moves = off;
+  block = off;
   level = sy.level ∙ nesting ∙ ap (level_after ops.Syscall) (sym sx.level);
 }

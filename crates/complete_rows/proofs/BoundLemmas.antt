@@ -1,30 +1,19 @@
 -- Addresses and keys stay within their bounds from cycle to cycle.
-use Rattle.std.proofs.Common.{All, ◌≡◌, ℕ, zero, suc, ◌+◌, ◌*◌, ◌<◌, ◌≤◌, Bool, true, false, cond, List, [], ◌∷◌, length, drop, arith}
-use Rattle.std.proofs.lemmas.List.Elements.{All-cons, All-drop, All-head, All-nil}
-use Rattle.vm_field.specs.Limits.{most_cycles}
-use Rattle.vm_field.specs.Field.{prime, AreElements}
-use Rattle.vm_field.proofs.Elements.{elements-cons, elements-drop, elements-none}
-use Rattle.vm_ops.specs.Moves.{shift_of}
-use Rattle.vm_ops.specs.declared.op.Op.TheVariants as ops
-use Rattle.vm_ops.specs.declared.op.Shift.{Shift}
-use Rattle.vm_ops.specs.declared.op.Shift.TheVariants.{Left, Stay, Right}
-use Rattle.air_kit.specs.DeepCells.{input_key, input_keys}
-use Rattle.air_kit.specs.Flags.{is_op}
+use Rattle.complete_rows.proofs.Words
+use Words.{All, ◌≡◌, ℕ, zero, suc, ◌+◌, ◌*◌, ◌<◌, ◌≤◌, Bool, true, false, cond, List, [], ◌∷◌, length, drop, arith, All-cons, All-drop, All-head, All-nil}
+use Words.{most_cycles, prime, AreElements, elements-cons, elements-drop, elements-none, shift_of, Shift, Left, Stay, Right, input_key, input_keys, is_op}
+use Words.{Event, IsBounded, IsLowBlock, Open, Decoder, advance, advance_by, at_start, ends_call, ends_loop, hidden_of, keys_after, Kind, kind_of, respans}
+use Words.{respans_by}
+use Words.ops
+use Words.kinds
 use Rattle.air_kit.proofs.InputKeys.{input_key_low}
-use Rattle.machine_cycles.specs.declared.event.Event.{Event}
-use Rattle.complete_rows.specs.Bounds.{IsBounded, IsLowBlock}
-use Rattle.complete_rows.specs.Decoder.{Open, Decoder, advance, advance_by, at_start, ends_call, ends_loop, hidden_of, keys_after}
-use Rattle.vm_ops.specs.declared.kind.Kind.TheVariants as kinds
-use Rattle.vm_ops.specs.declared.kind.Kind.{Kind}
-use Rattle.vm_ops.specs.Codes.{kind_of}
-use Rattle.complete_rows.specs.Turns.{respans, respans_by}
 
 keys_low : (shift : Shift) (clock : ℕ) (keys : List ℕ) → clock < prime → AreElements keys → AreElements (keys_after shift clock keys)
 keys_low Left clock keys low h = elements-drop 1 keys h
 keys_low Stay clock keys low h = h
 keys_low Right clock keys low h = elements-cons clock keys low h
 
-next_few : (b : Bool) (next most : ℕ) → next ≤ 1 + 8 * most → cond b (next + 8) next ≤ 1 + 8 * (most + 1)
+pub next_few : (b : Bool) (next most : ℕ) → next ≤ 1 + 8 * most → cond b (next + 8) next ≤ 1 + 8 * (most + 1)
 next_few true next most h = omega (arith, h)
 next_few false next most h = omega (arith, h)
 

@@ -1,15 +1,11 @@
 -- Sums over the pairs of a run's rows, by potentials: what is owed before a cycle and what its pair gives is what its pair asks and what
 -- is owed behind it.
-use Rattle.std.proofs.Common.{◌≡◌, ℕ, ◌+◌, List, [], ◌∷◌, ◌++◌, length, refl, ap, ◌∙◌, arith}
-use Rattle.vm_field.specs.Machine.{State}
-use Rattle.block_tree.specs.Steps.{Task}
-use Rattle.buses.specs.Counts.{Counted, at_row, counted, over_first, over_rows, total, with_next}
-use Rattle.buses.proofs.Counting.{total-front}
-use Rattle.machine_cycles.specs.declared.event.Event.{Event}
-use Rattle.complete_rows.specs.Chains as chains
-use Rattle.complete_rows.specs.Chains.{AreLinked, over_pairs}
-use Rattle.complete_rows.specs.Decoder.{Decoder, advance, decoder_after}
-use Rattle.complete_rows.specs.Moments.{IsMoment, event_at}
+use Rattle.complete_rows.proofs.Words
+use Words.{◌≡◌, ℕ, ◌+◌, List, [], ◌∷◌, ◌++◌, length, refl, ap, ◌∙◌, arith, State, Task, Counted, counted, over_first, over_rows, total, with_next, total-front}
+use Words.{Event, AreLinked, Decoder, advance, decoder_after, IsMoment, event_at}
+use Words.chains
+use Rattle.buses.specs.Counts.{at_row}
+use Rattle.complete_rows.specs.Chains.{over_pairs}
 
 -- a bus's count over the rows is the sum over their pairs
 pub over_rows_pairs : (tuples : List ℕ → List ℕ → List Counted) (u : List ℕ) (rows : List (List ℕ))

@@ -1,44 +1,21 @@
 -- The columns of a row that is laid out from its parts.
-use Rattle.std.proofs.Common.{◌≡◌, ◌⊎◌, inl, inr, ℕ, zero, suc, ◌+◌, ◌-◌, ◌<◌, ◌≤◌, ◌==◌, slice_index, refl, sym, subst, arith}
-use Rattle.std.proofs.lemmas.Bool.{cases_eq, cases_lt}
-use Rattle.vm_field.specs.Field.{felt_inv}
-use Rattle.vm_field.specs.Signs.{◌⊟◌}
-use Rattle.vm_ops.specs.Codes.{is_ordinary_op}
-use Rattle.vm_ops.specs.Values.{bit_of}
-use Rattle.vm_table.specs.MainColumns.{clk, fmp, ctx, sys, f, addr, b, h, sp, gc, ox, c, s, depth, key, inv, ha, lv, w, t}
-use Rattle.complete_rows.specs.Lines.{Line, code_bit, laid_out}
+use Rattle.complete_rows.proofs.Words
+use Words.{◌≡◌, ℕ, zero, suc, ◌<◌, ◌==◌, slice_index, refl, arith, felt_inv, ◌⊟◌, is_ordinary_op}
+use Words.{bit_of, clk, ctx, sys, f, addr, b, h, sp, gc, ox, c, s, depth, key, inv, ha, lv, w, t, Line, code_bit, laid_out}
+use Rattle.vm_table.specs.MainColumns.{fmp}
+
+-- what is so of each number below another one
+abbrev pub EachBelow : ℕ → (ℕ → Type 0) → Type 0
+EachBelow zero P = Unit {0}
+EachBelow (suc n) P = P 0 × EachBelow n (λ j. P (suc j))
+
+pub below_by : (n : ℕ) (P : ℕ → Type 0) → EachBelow n P → (j : ℕ) → j < n → P j
+below_by zero P each j low = absurd (omega (arith, low))
+below_by (suc n) P each zero low = each.0
+below_by (suc n) P each (suc j) low = below_by n (λ k. P (suc k)) each.1 j (omega (arith, low))
 
 pub below_four : (P : ℕ → Type 0) → P 0 → P 1 → P 2 → P 3 → (j : ℕ) → j < 4 → P j
-below_four P p0 p1 p2 p3 zero h = p0
-below_four P p0 p1 p2 p3 (suc zero) h = p1
-below_four P p0 p1 p2 p3 (suc (suc zero)) h = p2
-below_four P p0 p1 p2 p3 (suc (suc (suc zero))) h = p3
-below_four P p0 p1 p2 p3 (suc (suc (suc (suc j)))) h = absurd (omega (arith, h))
-
-below_more : (n : ℕ) (P : ℕ → Type 0) → ((j : ℕ) → j < n → P j) → P n → (j : ℕ) → j < suc n → P j
-below_more n P below last j h =
-    elim (cases_eq j n) [ inl e ↦ subst P (sym e) last | inr apart ↦ below j (omega (arith, h, apart)) ]
-
-pub below_seven : (P : ℕ → Type 0) → P 0 → P 1 → P 2 → P 3 → P 4 → P 5 → P 6 → (j : ℕ) → j < 7 → P j
-below_seven P p0 p1 p2 p3 p4 p5 p6 = below_more 6 P (below_more 5 P (below_more 4 P (below_four P p0 p1 p2 p3) p4) p5) p6
-
-pub below_eight : (P : ℕ → Type 0) → P 0 → P 1 → P 2 → P 3 → P 4 → P 5 → P 6 → P 7 → (j : ℕ) → j < 8 → P j
-below_eight P p0 p1 p2 p3 p4 p5 p6 p7 = below_more 7 P (below_seven P p0 p1 p2 p3 p4 p5 p6) p7
-
-below_ten : (P : ℕ → Type 0) → P 0 → P 1 → P 2 → P 3 → P 4 → P 5 → P 6 → P 7 → P 8 → P 9 → (j : ℕ) → j < 10 → P j
-below_ten P p0 p1 p2 p3 p4 p5 p6 p7 p8 p9 = below_more 9 P (below_more 8 P (below_eight P p0 p1 p2 p3 p4 p5 p6 p7) p8) p9
-
-pub below_sixteen : (P : ℕ → Type 0) → P 0 → P 1 → P 2 → P 3 → P 4 → P 5 → P 6 → P 7 → P 8 → P 9 → P 10 → P 11 → P 12 → P 13 → P 14
-    → P 15 → (j : ℕ) → j < 16 → P j
-below_sixteen P p0 p1 p2 p3 p4 p5 p6 p7 p8 p9 p10 p11 p12 p13 p14 p15 j h = go (cases_lt j 8)
-  where
-    whole : (n : ℕ) → 8 ≤ n → 8 + (n - 8) ≡ n
-    whole n high = omega (arith, high)
-
-    go : (j < 8) ⊎ (8 ≤ j) → P j
-    go (inl low) = below_eight P p0 p1 p2 p3 p4 p5 p6 p7 j low
-    go (inr high) =
-        subst P (whole j high) (below_eight (λ k. P (8 + k)) p8 p9 p10 p11 p12 p13 p14 p15 (j - 8) (omega (arith, h, high)))
+below_four P p0 p1 p2 p3 = below_by 4 P (p0, (p1, (p2, (p3, tt))))
 
 pub col_clk : (l : Line) → clk (laid_out l) ≡ l.seen.clock
 unfolding laid_out
@@ -98,17 +75,17 @@ col_f l = below_four (λ j. f (laid_out l) j ≡ slice_index l.seen.digest j) re
 
 pub col_b : (l : Line) (j : ℕ) → j < 7 → b (laid_out l) j ≡ code_bit l.op j
 unfolding laid_out
-col_b l = below_seven (λ j. b (laid_out l) j ≡ code_bit l.op j) refl refl refl refl refl refl refl
+col_b l = below_by 7 (λ j. b (laid_out l) j ≡ code_bit l.op j) (refl, (refl, (refl, (refl, (refl, (refl, (refl, tt)))))))
 
 pub col_h : (l : Line) (j : ℕ) → j < 8 → h (laid_out l) j ≡ slice_index l.hash j
 unfolding laid_out
-col_h l = below_eight (λ j. h (laid_out l) j ≡ slice_index l.hash j) refl refl refl refl refl refl refl refl
+col_h l = below_by 8 (λ j. h (laid_out l) j ≡ slice_index l.hash j) (refl, (refl, (refl, (refl, (refl, (refl, (refl, (refl, tt))))))))
 
 pub col_s : (l : Line) (j : ℕ) → j < 16 → s (laid_out l) j ≡ slice_index l.seen.cells j
 unfolding laid_out
 col_s l =
-    below_sixteen (λ j. s (laid_out l) j ≡ slice_index l.seen.cells j) refl refl refl refl refl refl refl refl refl refl refl refl
-    refl refl refl refl
+    below_by 16 (λ j. s (laid_out l) j ≡ slice_index l.seen.cells j)
+    (refl, (refl, (refl, (refl, (refl, (refl, (refl, (refl, (refl, (refl, (refl, (refl, (refl, (refl, (refl, (refl, tt))))))))))))))))
 
 pub col_w : (l : Line) (j : ℕ) → j < 4 → w (laid_out l) j ≡ slice_index l.witnesses j
 unfolding laid_out
@@ -116,7 +93,8 @@ col_w l = below_four (λ j. w (laid_out l) j ≡ slice_index l.witnesses j) refl
 
 pub col_t : (l : Line) (j : ℕ) → j < 10 → t (laid_out l) j ≡ slice_index l.limbs j
 unfolding laid_out
-col_t l = below_ten (λ j. t (laid_out l) j ≡ slice_index l.limbs j) refl refl refl refl refl refl refl refl refl refl
+col_t l = below_by 10 (λ j. t (laid_out l) j ≡ slice_index l.limbs j)
+    (refl, (refl, (refl, (refl, (refl, (refl, (refl, (refl, (refl, (refl, tt))))))))))
 
 pub col_c0 : (l : Line) → c (laid_out l) 0 ≡ bit_of (l.in_use == 8)
 unfolding laid_out

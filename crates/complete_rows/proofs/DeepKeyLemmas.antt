@@ -1,26 +1,13 @@
 -- From cycle to cycle the keys of cells below the sixteenth stay those of inputs and of past pushes, the newest first.
-use Rattle.std.proofs.Common.{◌≡◌, ◌⊎◌, ℕ, zero, suc, ◌+◌, ◌-◌, ◌<◌, ◌≤◌, ◌^◌, Bool, true, false, cond, List, [], ◌∷◌, ◌++◌, length, drop, slice_index, inl, inr, refl, sym, ap, subst, arith}
-use Rattle.std.proofs.lemmas.Bool.{cases_lt}
-use Rattle.std.proofs.lemmas.List.{append-nil}
-use Rattle.vm_field.specs.Field.{prime}
-use Rattle.vm_field.specs.Limits.{most_cycles}
-use Rattle.vm_field.specs.Machine.{State, start}
-use Rattle.vm_ops.specs.Moves.{shift_of}
-use Rattle.vm_ops.specs.declared.op.Shift.{Shift}
-use Rattle.vm_ops.specs.declared.op.Shift.TheVariants.{Left, Stay, Right}
-use Rattle.vm_ops.specs.declared.kind.Kind.TheVariants as kinds
-use Rattle.vm_ops.specs.declared.kind.Kind.{Kind}
-use Rattle.vm_ops.specs.Codes.{kind_of}
-use Rattle.block_tree.specs.Execution as run
-use Rattle.block_tree.specs.Steps.{Steps, Task, ended, goes}
-use Rattle.block_tree.proofs.AlongLemmas.{cycle-clock}
-use Rattle.block_tree.proofs.RunSteps.{run-steps}
-use Rattle.machine_cycles.specs.declared.event.Event.{Event}
-use Rattle.air_kit.specs.DeepCells.{input_key, input_keys, keys_at_start}
-use Rattle.complete_rows.specs.BlockRows.{events_of}
-use Rattle.complete_rows.specs.DeepKeys.{AreApart, AreDeepKeys, Fall, HasDeepKeys, IsInputKey, KeepsDeepKeys, RunKeepsDeepKeys, WasPushed, all_keys, came, hidden_keys}
-use Rattle.complete_rows.specs.Decoder.{Open, Decoder, advance, advance_by, at_start, ends_call, ends_loop, hidden_of, keys_after}
-use Rattle.complete_rows.specs.Moments.{event_at}
+use Rattle.complete_rows.proofs.Words
+use Words.{◌≡◌, ◌⊎◌, ℕ, zero, suc, ◌+◌, ◌-◌, ◌<◌, ◌≤◌, ◌^◌, Bool, true, false, cond, List, [], ◌∷◌, ◌++◌, length, drop, slice_index, inl, inr, refl, sym, ap}
+use Words.{subst, arith, cases_lt, append-nil, prime, most_cycles, State, start, shift_of, Shift, Left, Stay, Right, Kind, kind_of, Steps, Task, ended, goes}
+use Words.{cycle-clock, run-steps, Event, input_key, input_keys, keys_at_start, events_of, Open, Decoder, advance, advance_by, at_start, ends_call, ends_loop}
+use Words.{hidden_of, keys_after, event_at}
+use Words.kinds
+use Words.run
+use Rattle.complete_rows.specs.DeepKeys.{AreApart, AreDeepKeys, Fall, HasDeepKeys, IsInputKey, KeepsDeepKeys, RunKeepsDeepKeys, WasPushed, all_keys, came}
+use Rattle.complete_rows.specs.DeepKeys.{hidden_keys}
 
 -- ---- when keys came
 

@@ -1,18 +1,8 @@
 -- Which operation comes where which task is the first.
-use Rattle.std.proofs.Common.{◌≡◌, ℕ, true, false, ◌||◌, Bool, List, [], ◌∷◌, refl, sym, ap, subst, ◌∙◌}
-use Rattle.vm_field.specs.Machine.{Core}
-use Rattle.vm_ops.specs.Codes.{is_ordinary_op, is_start_op}
-use Rattle.vm_ops.specs.declared.item.Item.{Item}
-use Rattle.vm_ops.specs.declared.op.Op.{Op}
-use Rattle.vm_ops.specs.declared.op.Op.TheVariants as ops
-use Rattle.block_tree.specs.Cycles.{Mark}
-use Rattle.block_tree.specs.Marks.{IsWholeMark}
-use Rattle.block_tree.specs.Rows.{op_of_mark}
-use Rattle.block_tree.specs.Steps.{Task, Block, Within, Closing, Next, span, operation, respan, span_ends, closes}
-use Rattle.block_tree.specs.Trees.{Tree}
-use Rattle.air_kit.specs.Flags.{is_op}
-use Rattle.complete_rows.specs.Agreement.{AreOutside, IsOutsideSpan}
-use Rattle.complete_rows.specs.Moments.{Comes}
+use Rattle.complete_rows.proofs.Words
+use Words.{◌≡◌, ℕ, true, false, ◌||◌, Bool, List, [], ◌∷◌, refl, sym, ap, subst, ◌∙◌, Core, is_ordinary_op, is_start_op, Item, Op, Mark, IsWholeMark}
+use Words.{op_of_mark, Task, Block, Within, Closing, Next, span, operation, respan, span_ends, closes, Tree, is_op, AreOutside, IsOutsideSpan, Comes}
+use Words.ops
 
 module _ (constants : List ℕ) where
   block_starts : {tree : Tree} {c : Core} {mark : Mark} {rest : List Task} → Next constants (Block tree) c mark rest

@@ -1,24 +1,11 @@
 -- A row of an ordinary operation takes its digit of the group, and the row behind it shows what is left.
-use Rattle.std.proofs.Common.{◌≡◌, ◌≢◌, ℕ, zero, suc, ◌+◌, ◌-◌, ◌/◌, ◌%◌, ◌<◌, ◌≤◌, true, false, ◌||◌, List, [], ◌∷◌, length, Some, refl, sym, ap, ◌∙◌, subst, arith}
-use Rattle.std.proofs.lemmas.Bool.{eqb-true}
-use Rattle.vm_field.specs.Field.{prime, felt_inv}
-use Rattle.vm_field.specs.Machine.{Core}
-use Rattle.vm_field.specs.Signs.{◌⊞◌, ◌⊟◌, ◌⊠◌}
-use Rattle.vm_field.proofs.Inverses.{felt_mul-felt_inv}
-use Rattle.vm_ops.specs.Codes.{code_of, is_ordinary_op}
-use Rattle.vm_ops.specs.declared.item.Item.{Item}
-use Rattle.vm_ops.specs.declared.op.Op.{Op}
-use Rattle.vm_ops.specs.declared.op.Op.TheVariants as ops
-use Rattle.vm_ops.proofs.CodeLemmas.{code_of-below}
-use Rattle.vm_table.specs.MainColumns.{h, gc, ox, w}
-use Rattle.op_pack.specs.Reading.{read_on}
-use Rattle.block_tree.specs.Steps.{Task, Within}
-use Rattle.air_kit.specs.Flags.{is_op}
+use Rattle.complete_rows.proofs.Words
+use Words.{◌≡◌, ◌≢◌, ℕ, zero, suc, ◌+◌, ◌-◌, ◌/◌, ◌%◌, ◌<◌, ◌≤◌, true, false, ◌||◌, List, [], ◌∷◌, length, Some, refl, sym, ap, ◌∙◌, subst, arith, eqb-true}
+use Words.{prime, felt_inv, Core, ◌⊞◌, ◌⊟◌, ◌⊠◌, felt_mul-felt_inv, code_of, is_ordinary_op, Item, Op, code_of-below, h, gc, ox, w, read_on, Task, Within}
+use Words.{is_op, IsLowUnread, ReadsOn, Unread, group_after, taken_from, Comes}
+use Words.ops
 use Rattle.facts_main.specs.Groups as groups
 use Rattle.facts_main.specs.Groups.{IsGroupRow, GoesOn}
-use Rattle.complete_rows.specs.Agreement.{IsLowUnread, ReadsOn}
-use Rattle.complete_rows.specs.Groups.{Unread, group_after, taken_from}
-use Rattle.complete_rows.specs.Moments.{Comes}
 use Rattle.complete_rows.proofs.AgreeLemmas.{apart_from_push, is_push, takes_next}
 use Rattle.complete_rows.proofs.FollowLemmas.{closes_batch, goes_within}
 use Rattle.complete_rows.proofs.ReadingLemmas.{Takes, pushes, goes, opens, ends, reads_some}
@@ -56,7 +43,7 @@ push_code_is item number is e = eqb-true (code_of item.op) 69 is ∙ sym e
 
 -- ---- what is left, by what was taken
 
-after_push : (op : Op) (u : Unread) (position : ℕ) (later : List ℕ) → is_op op ops.Push ≡ true → u.positions ≡ position ∷ later
+pub after_push : (op : Op) (u : Unread) (position : ℕ) (later : List ℕ) → is_op op ops.Push ≡ true → u.positions ≡ position ∷ later
     → taken_from (is_op op ops.Push) u ≡ record { number = u.number / 128; place = u.place + 1; positions = later }
 after_push op u position later push at = rw (push, at) refl
 
@@ -65,23 +52,23 @@ going : (n place : ℕ) (positions : List ℕ) → n ≢ 0
 going zero place positions some = absurd (some refl)
 going (suc n) place positions some = refl
 
-after_goes : (op : Op) (u : Unread) → is_op op ops.Push ≡ false → u.number / 128 ≢ 0
+pub after_goes : (op : Op) (u : Unread) → is_op op ops.Push ≡ false → u.number / 128 ≢ 0
     → taken_from (is_op op ops.Push) u ≡ record { number = u.number / 128; place = u.place + 1; positions = u.positions }
 after_goes op u apart some = rw apart (going (u.number / 128) u.place u.positions some)
 
-after_opens : (op : Op) (u : Unread) (position : ℕ) (later : List ℕ) → is_op op ops.Push ≡ false → u.number / 128 ≡ 0
+pub after_opens : (op : Op) (u : Unread) (position : ℕ) (later : List ℕ) → is_op op ops.Push ≡ false → u.number / 128 ≡ 0
     → u.positions ≡ position ∷ later → taken_from (is_op op ops.Push) u ≡ record { number = position; place = 0; positions = later }
 after_opens op u position later apart none at = rw (apart, none, at) refl
 
 -- ---- what comes behind
 
-some_of : (positions : List ℕ) (room number : ℕ) (items : List Item) → read_on positions room number ≡ Some items → items ≢ []
+pub some_of : (positions : List ℕ) (room number : ℕ) (items : List Item) → read_on positions room number ≡ Some items → items ≢ []
 some_of positions room number items e none = reads_some positions room number (e ∙ ap Some none)
 
-same_code : (number code : ℕ) → code ≡ number % 128 → number / 128 ≡ 0 → number ≡ code
+pub same_code : (number code : ℕ) → code ≡ number % 128 → number / 128 ≡ 0 → number ≡ code
 same_code number code is none = omega (arith, is, none)
 
-other_code : (number code : ℕ) → code < 128 → number / 128 ≢ 0 → number ≢ code
+pub other_code : (number code : ℕ) → code < 128 → number / 128 ≢ 0 → number ≢ code
 other_code number code few some e = omega (arith, few, some, e)
 
 module _ (constants : List ℕ) where
@@ -90,7 +77,7 @@ module _ (constants : List ℕ) where
   some_next [] later digest todo c next some comes = absurd (some refl)
   some_next (item ∷ items) later digest todo c next some comes = goes_within constants item items later digest todo c next comes
 
-  none_next : (items : List Item) (later : List (List ℕ)) (digest : List ℕ) (todo : List Task) (c : Core) (next : Op)
+  pub none_next : (items : List Item) (later : List (List ℕ)) (digest : List ℕ) (todo : List Task) (c : Core) (next : Op)
       → items ≡ [] → Comes constants (Within items later digest ∷ todo) c next → is_ordinary_op next ≡ false
   none_next [] later digest todo c next none comes = (closes_batch constants later digest todo c next comes).0
   none_next (item ∷ items) later digest todo c next none comes = cc

@@ -1,3 +1,4 @@
+pub mod Words
 pub mod ReadingLemmas
 pub mod ColumnLemmas
 pub mod AgreeLemmas

@@ -1,28 +1,17 @@
 -- The parts of the rows of a run are elements.
-use Rattle.std.proofs.Common.{◌≡◌, ℕ, suc, ◌+◌, ◌-◌, ◌*◌, ◌/◌, ◌%◌, ◌<◌, ◌≤◌, All, Bool, true, false, cond, eqb, List, [], ◌∷◌, length, drop, slice_index, arith, lit<}
-use Rattle.std.proofs.lemmas.List.Elements.{All-cons, All-drop, All-from_recursion, All-head, All-nil, All-tail, All-weaker}
-use Rattle.vm_field.specs.Limits.{most_cycles}
-use Rattle.vm_field.specs.Field.{prime, AreElements, felt_inv}
-use Rattle.vm_field.specs.Machine.{Core, IsWellFormedCore}
-use Rattle.vm_field.specs.Signs.{◌⊟◌}
-use Rattle.vm_field.proofs.Elements.{elements-append, elements-cons, elements-drop, elements-index, elements-none, elements-one, elements-take}
-use Rattle.vm_ops.specs.Codes.{code_of}
-use Rattle.vm_ops.specs.declared.op.Op.{Op}
-use Rattle.vm_ops.specs.declared.op.Op.TheVariants as ops
-use Rattle.op_pack.specs.Reading.{positions_in_use}
-use Rattle.machine_cycles.specs.Events.{visible_of}
-use Rattle.machine_cycles.specs.declared.event.Event.{Event}
-use Rattle.machine_cycles.specs.declared.event.Visible.{Visible}
-use Rattle.complete_rows.specs.Agreement.{IsLowUnread}
-use Rattle.complete_rows.specs.Bounds.{IsBounded, IsLowBlock, IsSmallCore}
-use Rattle.complete_rows.specs.Decoder.{Open, Decoder, address_of}
-use Rattle.complete_rows.specs.Filling.{hash_by, line_of, witnesses_by}
-use Rattle.vm_ops.specs.declared.kind.Kind.TheVariants as kinds
-use Rattle.vm_ops.specs.declared.kind.Kind.{Kind}
-use Rattle.vm_ops.specs.Codes.{kind_of}
-use Rattle.complete_rows.specs.Limbs.{cell, limbs_by, limbs_of, word_rest}
-use Rattle.complete_rows.specs.Turns.{repeats, repeats_by}
-use Rattle.complete_rows.specs.Witnesses.{batch_witnesses, difference, first_inverse, first_witness, operation_witnesses, upper_half}
+use Rattle.complete_rows.proofs.Words
+use Words.{◌≡◌, ℕ, suc, ◌+◌, ◌-◌, ◌*◌, ◌/◌, ◌%◌, ◌<◌, ◌≤◌, All, Bool, true, false, cond, eqb, List, [], ◌∷◌, length, drop, slice_index, arith, lit<, All-cons}
+use Words.{All-drop, All-from_recursion, All-head, All-nil, All-tail, most_cycles, prime, AreElements, felt_inv, Core, IsWellFormedCore, ◌⊟◌, elements-cons}
+use Words.{elements-drop, elements-index, elements-none, elements-take, code_of, Op, positions_in_use, visible_of, Event, Visible, IsLowUnread, IsBounded}
+use Words.{IsLowBlock, IsSmallCore, Open, Decoder, address_of, hash_by, line_of, witnesses_by, Kind, kind_of, cell, limbs_by, limbs_of, word_rest, repeats_by}
+use Words.{operation_witnesses}
+use Words.ops
+use Words.kinds
+use Rattle.std.proofs.lemmas.List.Elements.{All-weaker}
+use Rattle.std.specs.List.{AllByRecursion}
+use Rattle.vm_field.proofs.Elements.{elements-append, elements-one}
+use Rattle.complete_rows.specs.Turns.{repeats}
+use Rattle.complete_rows.specs.Witnesses.{batch_witnesses, difference, first_inverse, first_witness, upper_half}
 use Rattle.complete_rows.proofs.BoundLemmas.{few_respans}
 use Rattle.complete_rows.proofs.LowLemmas.{◌▸◌, IsLowLine, inverse_low, sub_low}
 
@@ -45,29 +34,21 @@ last_number : (n : ℕ) → n < prime → (n % 65536 < prime) × ((n / 65536 < p
 last_number n low = (low_limb n, (high_limb n low, tt))
 
 module _ (x y : Visible) (h : AreElements x.cells) (g : AreElements y.cells) where
-  low_limbs : (op : Op) → AreElements (limbs_by op x y)
-  low_limbs ops.U32Split = All-from_recursion (λ e. e < prime) (limbs_by ops.U32Split x y) (low_cells y g 1 (low_cells y g 0 tt))
-  low_limbs ops.U32Assert2 = All-from_recursion (λ e. e < prime) (limbs_by ops.U32Assert2 x y) (low_cells x h 0 (low_cells x h 1 tt))
-  low_limbs ops.U32Sub =
-      All-from_recursion (λ e. e < prime) (limbs_by ops.U32Sub x y) (low_cells x h 0 (low_cells x h 1 (low_cells y g 1 tt)))
-  low_limbs ops.U32Add =
-      All-from_recursion (λ e. e < prime) (limbs_by ops.U32Add x y)
-      (low_cells x h 0 (low_cells x h 1 (low_cells y g 1 (last_cell y g 0))))
-  low_limbs ops.U32Mul =
-      All-from_recursion (λ e. e < prime) (limbs_by ops.U32Mul x y)
-      (low_cells x h 0 (low_cells x h 1 (low_cells y g 1 (low_cells y g 0 tt))))
-  low_limbs ops.U32Add3 =
-      All-from_recursion (λ e. e < prime) (limbs_by ops.U32Add3 x y)
-      (low_cells x h 0 (low_cells x h 1 (low_cells x h 2 (low_cells y g 1 (last_cell y g 0)))))
-  low_limbs ops.U32MAdd =
-      All-from_recursion (λ e. e < prime) (limbs_by ops.U32MAdd x y)
-      (low_cells x h 0 (low_cells x h 1 (low_cells x h 2 (low_cells y g 1 (low_cells y g 0 tt)))))
-  low_limbs ops.U32Div =
+  low_parts : (op : Op) → AllByRecursion (λ e. e < prime) (limbs_by op x y)
+  low_parts ops.U32Split = low_cells y g 1 (low_cells y g 0 tt)
+  low_parts ops.U32Assert2 = low_cells x h 0 (low_cells x h 1 tt)
+  low_parts ops.U32Sub = low_cells x h 0 (low_cells x h 1 (low_cells y g 1 tt))
+  low_parts ops.U32Add = low_cells x h 0 (low_cells x h 1 (low_cells y g 1 (last_cell y g 0)))
+  low_parts ops.U32Mul = low_cells x h 0 (low_cells x h 1 (low_cells y g 1 (low_cells y g 0 tt)))
+  low_parts ops.U32Add3 = low_cells x h 0 (low_cells x h 1 (low_cells x h 2 (low_cells y g 1 (last_cell y g 0))))
+  low_parts ops.U32MAdd = low_cells x h 0 (low_cells x h 1 (low_cells x h 2 (low_cells y g 1 (low_cells y g 0 tt))))
+  low_parts ops.U32Div =
       let rest : cell x 0 - cell y 0 - 1 < prime = let low = elements-index x.cells 0 h in omega (arith, low) in
-      All-from_recursion (λ e. e < prime) (limbs_by ops.U32Div x y)
-      (low_cells x h 0 (low_cells x h 1 (low_cells y g 1 (low_cells y g 0
-      (last_number (cell x 0 - cell y 0 - 1) rest)))))
-  low_limbs op = elements-none
+      low_cells x h 0 (low_cells x h 1 (low_cells y g 1 (low_cells y g 0 (last_number (cell x 0 - cell y 0 - 1) rest))))
+  low_parts op = tt
+
+  low_limbs : (op : Op) → AreElements (limbs_by op x y)
+  low_limbs op = All-from_recursion (λ e. e < prime) (limbs_by op x y) (low_parts op)
 
 low_rest : (op : Op) (word : List ℕ) → AreElements word → AreElements (word_rest op word)
 low_rest ops.MLoad word h = elements-drop 1 word h

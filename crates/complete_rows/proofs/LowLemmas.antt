@@ -1,19 +1,11 @@
 -- The cells of a row are elements where its parts are.
-use Rattle.std.proofs.Common.{◌≡◌, ◌⊎◌, inl, inr, ℕ, zero, suc, ◌+◌, ◌*◌, ◌/◌, ◌%◌, ◌^◌, ◌<◌, Bool, true, false, ◌==◌, cond, slice_index, arith, lit<}
+use Rattle.complete_rows.proofs.Words
+use Words.{◌≡◌, ◌⊎◌, inl, inr, ℕ, zero, suc, ◌+◌, ◌*◌, ◌/◌, ◌%◌, ◌^◌, ◌<◌, Bool, true, false, ◌==◌, cond, slice_index, arith, lit<, All-from_recursion, prime}
+use Words.{AreElements, felt_inv, ◌⊟◌, elements-index, code_of, is_ordinary_op, Op, code_of-below, bit_of, b, ReadsAs, Line, code_bit, laid_out}
 use Rattle.std.proofs.lemmas.Bool.{cases_Bool}
-use Rattle.std.proofs.lemmas.List.Elements.{All-from_recursion}
-use Rattle.vm_field.specs.Field.{prime, AreElements, felt_inv, felt_mul, one_below}
-use Rattle.vm_field.specs.Signs.{◌⊟◌}
-use Rattle.vm_field.proofs.Elements.{elements-index}
-use Rattle.vm_ops.specs.Codes.{code_of, is_ordinary_op}
-use Rattle.vm_ops.specs.declared.op.Op.{Op}
-use Rattle.vm_ops.proofs.CodeLemmas.{code_of-below}
-use Rattle.vm_ops.specs.Values.{bit_of}
-use Rattle.vm_table.specs.MainColumns.{b}
+use Rattle.vm_field.specs.Field.{felt_mul, one_below}
 use Rattle.air_kit.specs.Flags.{HasOp, spelled}
 use Rattle.air_kit.proofs.FlagLemmas.{has_op-from}
-use Rattle.facts_main.specs.RowFacts.{ReadsAs}
-use Rattle.complete_rows.specs.Lines.{Line, code_bit, laid_out}
 use Rattle.complete_rows.proofs.ColumnLemmas.{col_b, col_sp}
 
 -- facts of a list's elements, one after another

@@ -1,30 +1,14 @@
 -- What the row of a moment of a run shows, by the operation that its bits spell, and what it and the row behind it show.
-use Rattle.std.proofs.Common.{◌≡◌, ℕ, ◌<◌, ◌≤◌, List, [], ◌∷◌, ◌++◌, slice_index, take, unwrap_or, refl, sym, ap, ◌∙◌, subst, arith}
-use Rattle.vm_field.specs.Limits.{most_cycles}
-use Rattle.vm_field.specs.Machine.{Core, State}
-use Rattle.vm_field.proofs.Elements.{elements-replicate, elements-take, word-zero}
-use Rattle.vm_ops.specs.Codes.{code_of, op_at}
-use Rattle.vm_ops.specs.declared.op.Op.{Op}
-use Rattle.vm_ops.specs.declared.op.Op.TheVariants as ops
-use Rattle.vm_ops.proofs.CodeLemmas.{code_of-below, op_at-code_of}
-use Rattle.block_tree.specs.Behind.{IsAllowed, core_behind}
-use Rattle.block_tree.specs.Cycles.{Mark, advice_taken, effect_of}
-use Rattle.block_tree.specs.Rows.{accessed, behind, op_of_mark}
-use Rattle.block_tree.specs.Steps.{Task, IsCycle}
-use Rattle.block_tree.proofs.BehindLemmas.{behind-cycle}
-use Rattle.block_tree.proofs.RowLemmas.{accessed-word, hash-batch, shown-behind}
-use Rattle.air_kit.specs.Flags as flags
-use Rattle.machine_cycles.specs.Events.{visible_of}
-use Rattle.machine_cycles.specs.declared.event.Event.{Event}
-use Rattle.vm_table.specs.MainColumns.{b, h, t, w}
-use Rattle.facts_main.specs.RowFacts.{ReadsAs, IsRow, IsPair}
-use Rattle.complete_rows.specs.Decoder.{Decoder, advance}
-use Rattle.complete_rows.specs.Filling.{halted, hash_by, line_of, witnesses_by}
-use Rattle.vm_ops.specs.Codes.{kind_of}
-use Rattle.complete_rows.specs.Limbs.{limbs_of}
-use Rattle.complete_rows.specs.Lines.{Line, laid_out}
-use Rattle.complete_rows.specs.Moments.{Comes, IsLastMoment, IsMoment, IsRowAt, event_at}
-use Rattle.complete_rows.specs.Shows.{Shows}
+use Rattle.complete_rows.proofs.Words
+use Words.{◌≡◌, ℕ, ◌<◌, ◌≤◌, List, [], ◌∷◌, ◌++◌, slice_index, take, unwrap_or, refl, sym, ap, ◌∙◌, subst, arith, most_cycles, Core, State, elements-take}
+use Words.{code_of, op_at, Op, code_of-below, IsAllowed, core_behind, Mark, advice_taken, effect_of, accessed, behind, op_of_mark, Task, IsCycle, behind-cycle}
+use Words.{hash-batch, visible_of, Event, b, h, t, w, ReadsAs, IsRow, IsPair, Decoder, advance, halted, hash_by, line_of, witnesses_by, kind_of, limbs_of, Line}
+use Words.{laid_out, Comes, IsLastMoment, IsMoment, IsRowAt, event_at, Shows}
+use Words.ops
+use Words.flags
+use Rattle.vm_field.proofs.Elements.{elements-replicate, word-zero}
+use Rattle.vm_ops.proofs.CodeLemmas.{op_at-code_of}
+use Rattle.block_tree.proofs.RowLemmas.{accessed-word, shown-behind}
 use Rattle.complete_rows.proofs.BatchLemmas.{IsLaid, laid}
 use Rattle.complete_rows.proofs.ColumnLemmas.{col_b, col_t}
 use Rattle.complete_rows.proofs.LineLemmas.{ha_low, low_line, next_low}

@@ -1,29 +1,15 @@
 -- The rows of a run are those of its cycles, one behind the other, and of HALT.
-use Rattle.std.proofs.Common.{All, ◌≡◌, ℕ, zero, suc, ◌+◌, ◌<◌, ◌≤◌, List, [], ◌∷◌, length, refl, sym, ap, subst, arith}
-use Rattle.std.proofs.lemmas.List.Elements.{All-head, All-tail}
-use Rattle.vm_field.specs.Limits.{number_of_constants}
-use Rattle.vm_field.specs.Machine.{State, IsWellFormed}
-use Rattle.block_tree.specs.Cycles.{advice_taken}
-use Rattle.block_tree.specs.Execution as run
-use Rattle.block_tree.specs.Execution.{event_of}
-use Rattle.block_tree.specs.Steps.{Task, Steps, ended, goes}
-use Rattle.block_tree.proofs.AlongLemmas.{cycle-clock}
-use Rattle.block_tree.proofs.KeptLemmas.{cycle-kept}
+use Rattle.complete_rows.proofs.Words
+use Words.{All, ◌≡◌, ℕ, zero, suc, ◌+◌, ◌<◌, ◌≤◌, List, [], ◌∷◌, length, refl, sym, ap, subst, arith, All-head, All-tail, number_of_constants, State}
+use Words.{IsWellFormed, advice_taken, event_of, Task, Steps, ended, goes, cycle-clock, cycle-kept, visible_of, Event, Agrees, events_of, IsBounded}
+use Words.{IsSmallCore, AreLinked, Decoder, advance, decoder_after, halted, row_of, seen_behind, AreMoments, IsLastMoment, IsMoment, IsRowAt, event_at, row_at}
+use Words.run
+use Words.chains
 use Rattle.block_tree.proofs.TaskLemmas.{AreWholeTasks, next-whole, whole-append}
-use Rattle.machine_cycles.specs.Events.{visible_of}
-use Rattle.machine_cycles.specs.declared.event.Event.{Event}
-use Rattle.complete_rows.specs.Agreement.{Agrees}
-use Rattle.complete_rows.specs.BlockRows.{events_of}
-use Rattle.complete_rows.specs.Bounds.{IsBounded, IsSmallCore}
-use Rattle.complete_rows.specs.Chains as chains
-use Rattle.complete_rows.specs.Chains.{AreLinked}
-use Rattle.complete_rows.specs.Decoder.{Decoder, advance, decoder_after}
-use Rattle.complete_rows.specs.Filling.{fill, halted, row_of, seen_behind}
+use Rattle.complete_rows.specs.Filling.{fill}
 use Rattle.complete_rows.specs.Moments as moments
-use Rattle.complete_rows.specs.Moments.{AreMoments, IsLastMoment, IsMoment, IsRowAt, event_at}
 use Rattle.complete_rows.proofs.AgreeNext.{agrees_next}
 use Rattle.complete_rows.proofs.BoundLemmas.{bounded_next}
-use Rattle.vm_table.specs.Layout.{row_at}
 
 -- the first of some rows shows a place, and all of them are those of the run from there on
 pub record Filled (constants : List ℕ) (kernel : List (List ℕ)) (limit : ℕ) (todo : List Task) (d : Decoder) (s u : State) (events : List Event)

@@ -1,42 +1,20 @@
 -- What the row of a cycle and the row behind it show of blocks, batches and groups.
-use Rattle.std.proofs.Common.{◌≡◌, ℕ, ◌+◌, ◌-◌, ◌*◌, ◌<◌, ◌≤◌, true, false, List, [], ◌∷◌, ◌++◌, length, take, drop, refl, sym, ap, ◌∙◌, subst, arith, lit<, length-drop, length-take}
-use Rattle.std.proofs.lemmas.List.{get_or-take}
-use Rattle.vm_field.specs.Limits.{most_cycles}
-use Rattle.vm_field.specs.Machine.{Core, IsWellFormedCore}
-use Rattle.vm_field.specs.Signs.{◌⊞◌}
-use Rattle.vm_ops.specs.Codes.{is_ordinary_op, is_start_op}
-use Rattle.vm_ops.specs.Step.{seen}
-use Rattle.vm_ops.specs.declared.op.Op.{Op}
-use Rattle.vm_ops.specs.declared.op.Op.TheVariants as ops
-use Rattle.vm_table.specs.MainColumns.{clk, s}
-use Rattle.op_pack.specs.Reading.{positions_in_use}
-use Rattle.block_tree.specs.Behind.{core_behind, IsAllowed}
-use Rattle.block_tree.specs.Cycles.{Mark, Do, top}
-use Rattle.block_tree.specs.Marks.{IsWholeMark}
-use Rattle.block_tree.specs.Rows.{op_of_mark}
-use Rattle.block_tree.specs.Steps.{Task, Next, span, join, split_1, split_0, loop_1, loop_0, call, syscall, dyn, operation, respan, repeats, returns, leaves}
-use Rattle.block_tree.specs.Trees.{Span, Loop, tree_digest}
-use Rattle.air_kit.specs.Flags.{is_op}
-use Rattle.air_kit.specs.MainTuples.{is_batch_op}
-use Rattle.machine_cycles.specs.Events.{shown_between}
-use Rattle.machine_cycles.specs.declared.event.Event.{Event}
-use Rattle.machine_cycles.specs.declared.event.Visible.{Visible}
+use Rattle.complete_rows.proofs.Words
+use Words.{◌≡◌, ℕ, ◌+◌, ◌-◌, ◌*◌, ◌<◌, ◌≤◌, true, false, List, [], ◌∷◌, ◌++◌, length, take, drop, refl, sym, ap, ◌∙◌, subst, arith, lit<, length-drop}
+use Words.{length-take, get_or-take, most_cycles, Core, IsWellFormedCore, ◌⊞◌, is_ordinary_op, is_start_op, seen, Op, clk, s, positions_in_use, core_behind}
+use Words.{IsAllowed, Mark, Do, top, IsWholeMark, op_of_mark, Task, Next, span, join, split_1, split_0, loop_1, loop_0, call, syscall, dyn, operation, respan}
+use Words.{repeats, returns, leaves, Loop, tree_digest, is_op, is_batch_op, shown_between, Event, Visible, IsPair, never, off, Agrees, IsSmallCore, Decoder}
+use Words.{advance, advance_by, line_of, batch_begun, Comes, Shows}
+use Words.ops
+use Words.kinds
+use Rattle.block_tree.specs.Trees.{Span}
 use Rattle.facts_main.specs.Batches.{OpensBatch}
 use Rattle.facts_main.specs.Blocks.{KeepsBlock, keeps_block, level_after}
 use Rattle.facts_main.specs.Follows.{may_follow}
-use Rattle.facts_main.specs.RowFacts.{IsPair}
-use Rattle.facts_main.proofs.Says.{never, off}
-use Rattle.complete_rows.specs.Agreement.{Agrees}
-use Rattle.complete_rows.specs.Bounds.{IsSmallCore}
-use Rattle.complete_rows.specs.Decoder.{Decoder, advance, advance_by}
-use Rattle.complete_rows.specs.Filling.{line_of}
-use Rattle.complete_rows.specs.Groups.{batch_begun}
-use Rattle.vm_ops.specs.declared.kind.Kind.TheVariants as kinds
-use Rattle.complete_rows.specs.Moments.{Comes}
-use Rattle.complete_rows.specs.Shows.{Shows}
 use Rattle.complete_rows.proofs.AgreeLemmas.{ordinary_advance}
 use Rattle.complete_rows.proofs.BatchLemmas.{BatchCells, IsLaid, count_few, in_use, positions_are}
-use Rattle.complete_rows.proofs.BlockLemmas.{SameFunction, behind_digest, ended_call, entered_call, entered_syscall, frame_moved, frame_stays, kept_block, no_block, one_less, one_more, ordinary_level, tick}
+use Rattle.complete_rows.proofs.BlockLemmas.{SameFunction, behind_digest, ended_call, entered_call, entered_syscall, frame_moved, frame_stays, kept_block}
+use Rattle.complete_rows.proofs.BlockLemmas.{no_block, one_less, one_more, ordinary_level, tick}
 use Rattle.complete_rows.proofs.FollowLemmas.{behind_block, ends_block, starts_block}
 use Rattle.complete_rows.proofs.GroupLemmas.{goes_on_shown, some_next, within_follow}
 use Rattle.complete_rows.proofs.ReadingLemmas.{reading_some}
@@ -89,7 +67,7 @@ no_batch op is = let apart = no_block op is in rw (apart.span, apart.respan) ref
 opens_shown : (batch : List ℕ) {x y : List ℕ} {next : Op} {after : Decoder} {e : Core} → BatchCells batch x → length batch ≡ 8
     → Shows next after e y → after.unread ≡ batch_begun batch → is_ordinary_op next ≡ true → OpensBatch x y
 opens_shown batch {x = x} cells size sy is ordinary =
-    let few = count_few batch (positions_in_use batch) (in_use batch) in
+    let few = count_few (in_use batch) in
     record {
       group = sy.number ordinary ∙ ap (λ u. u.number) is ∙ sym (cells.hash 0 (lit< tt));
       left = ap (λ n. n + 1) (sy.left ∙ ap (λ u. length u.positions) is) ∙ left_count batch (positions_in_use batch) few.0 few.1 size
@@ -115,7 +93,7 @@ module _ {next : Op} {x y : List ℕ} {d after : Decoder} {c e : Core} where
       → c.nesting ≤ 1024 → e.clock ≡ c.clock + 1 → SameFunction e c → e.fmp ≡ c.fmp → e.nesting ≡ c.nesting - 1 → IsPair ops.End next x y
   ended_block sx sy early follows some few clock same frame nesting =
       block_pair refl refl refl (clock_shown sx sy clock early) follows
-      (kept_block sx sy refl refl same (λ is. frame) (λ is. off is) (λ is. off is) (nesting ∙ one_less c.nesting some few))
+      (kept_block sx sy refl refl same (λ is. frame) off off (nesting ∙ one_less c.nesting some few))
 
 -- behind the cycle of a mark
 abbrev behind_of : List ℕ → List ℕ → Mark → Core → Core
@@ -160,23 +138,23 @@ module _ {constants : List ℕ} {kernel : List (List ℕ)} {advice : List ℕ} {
         clock = clock_shown sx sy refl k.early;
         follows = ordinary;
         block = started sx sy refl refl refl refl (refl, refl, refl) refl refl k.allowed.0;
-        batch = record { first = λ is. sy.batch ∙ sym sy.address; later = λ is. off is; same = λ is. off is };
+        batch = record { first = λ is. sy.batch ∙ sym sy.address; later = off; same = off };
         opens = λ is. opens_shown batch lx k.whole.size sy refl ordinary;
-        group = λ is. off is;
+        group = off;
       }
   pair_shown (respan {c = c} {batch = batch} {later = more} {digest = digest} {items = items} read) k agrees sx lx sy comes =
       let ordinary : is_ordinary_op next ≡ true = some_next constants items more digest todo _ next (reading_some batch items read) comes in
       record {
         clock = clock_shown sx sy refl k.early;
         follows = ordinary;
-        block = kept_block sx sy refl refl (refl, refl, refl) (λ is. refl) (λ is. off is) (λ is. refl) refl;
+        block = kept_block sx sy refl refl (refl, refl, refl) (λ is. refl) off (λ is. refl) refl;
         batch = record {
-          first = λ is. off is;
+          first = off;
           later = λ is. sy.batch ∙ eight_more d.ha c.clock k.ha k.early ∙ ap (λ n. n ⊞ 8) (sym sx.batch);
-          same = λ is. off is;
+          same = off;
         };
         opens = λ is. opens_shown batch lx k.whole.size sy refl ordinary;
-        group = λ is. off is;
+        group = off;
       }
   pair_shown (operation {c = c} {item = item} {items = items} {later = more} {digest = digest}) k agrees sx lx sy comes =
       let moved : Shows next (advance_by kinds.Ordinary d (shown_between (Do item) advice c b) later) (behind_of constants advice (Do item) c) y
@@ -201,7 +179,7 @@ module _ {constants : List ℕ} {kernel : List (List ℕ)} {advice : List ℕ} {
       }
   pair_shown (repeats {a = a} bit) k agrees sx lx sy comes =
       block_pair refl refl refl (clock_shown sx sy refl k.early) (starts_block constants a [] _ next comes)
-      (kept_block sx sy refl refl (refl, refl, refl) (λ is. refl) (λ is. off is) (λ is. refl) refl)
+      (kept_block sx sy refl refl (refl, refl, refl) (λ is. refl) off (λ is. refl) refl)
   pair_shown (returns {c = c} {digest = digest}) k agrees sx lx sy comes =
       let z = behind_digest digest 0 0 1 0 x k.whole.0.size lx.hash in
       block_pair refl refl refl (clock_shown sx sy refl k.early) (behind_block constants todo _ next agrees.reads.1 comes)

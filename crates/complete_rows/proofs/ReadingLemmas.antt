@@ -1,15 +1,13 @@
 -- One operation more is taken of a batch: what was read goes on with what is left.
-use Rattle.std.proofs.Common.{◌≡◌, ◌≢◌, ◌⊎◌, inl, inr, ℕ, zero, suc, ◌/◌, ◌%◌, ◌<◌, ◌≤◌, Bool, true, false, eqb, cond, List, [], ◌∷◌, take, drop, slice_index, Option, Some, None, unwrap_or, refl, sym, ap, ◌∙◌, arith}
-use Rattle.std.proofs.lemmas.Bool.{cases_order, eqb-true}
+use Rattle.complete_rows.proofs.Words
+use Words.{◌≡◌, ◌≢◌, ◌⊎◌, inl, inr, ℕ, zero, suc, ◌/◌, ◌%◌, ◌<◌, ◌≤◌, Bool, true, false, eqb, cond, List, [], ◌∷◌, take, drop, slice_index, Option, Some, None}
+use Words.{unwrap_or, refl, sym, ap, ◌∙◌, arith, eqb-true, code_of, op_at, push_item, Item, Op, positions_in_use, read_on, reading}
+use Rattle.std.proofs.lemmas.Bool.{cases_order}
 use Rattle.std.proofs.lemmas.Bool.Decides.{nat_tests}
-use Rattle.vm_ops.specs.Codes.{code_of, op_at}
-use Rattle.vm_ops.specs.Items.{push_item}
-use Rattle.vm_ops.specs.declared.item.Item.{Item}
-use Rattle.vm_ops.specs.declared.op.Op.{Op}
 use Rattle.vm_ops.specs.declared.op.Op.TheVariants.{Noop}
 use Rattle.vm_ops.proofs.CodeLemmas.{code_of-op_at, op_at-outside}
 use Rattle.op_pack.specs.Digits.{go_on, pushed_on, next_group}
-use Rattle.op_pack.specs.Reading.{before, plain_digit, positions_in_use, read_on, reading}
+use Rattle.op_pack.specs.Reading.{before, plain_digit}
 use Rattle.op_pack.proofs.ReadLemmas.{read_on-above, read_on-full, read_on-plain, read_on-push}
 
 -- what an operation takes: the number of its group has its code as the lowest digit

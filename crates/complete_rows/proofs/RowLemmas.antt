@@ -1,28 +1,11 @@
 -- What the row of a cycle shows by itself, and the row of HALT.
-use Rattle.std.proofs.Common.{◌≡◌, ℕ, ◌<◌, false, List, [], ◌∷◌, slice_index, refl, sym, ap, ◌∙◌, subst, arith, lit<}
-use Rattle.vm_field.specs.Machine.{Core, zero_word}
-use Rattle.vm_ops.specs.Codes.{is_ordinary_op}
-use Rattle.vm_ops.specs.Step.{seen}
-use Rattle.vm_ops.specs.declared.op.Op.{Op}
-use Rattle.vm_ops.specs.declared.op.Op.TheVariants as ops
-use Rattle.vm_ops.specs.Values.{bit_of}
-use Rattle.block_tree.specs.Cycles.{Mark, Do}
-use Rattle.block_tree.specs.Rows.{op_of_mark}
-use Rattle.block_tree.specs.Steps.{Task, Next, span, join, split_1, split_0, loop_1, loop_0, call, syscall, dyn, operation, respan, span_ends, repeats, loop_ends, closes, returns, leaves}
-use Rattle.block_tree.specs.Trees.{Loop, tree_digest}
-use Rattle.air_kit.specs.Flags.{is_op}
-use Rattle.air_kit.specs.MainTuples.{is_batch_op}
-use Rattle.machine_cycles.specs.Events.{shown_between}
-use Rattle.machine_cycles.specs.declared.event.Event.{Event}
-use Rattle.machine_cycles.specs.declared.event.Visible.{Visible}
+use Rattle.complete_rows.proofs.Words
+use Words.{◌≡◌, ℕ, ◌<◌, false, List, [], ◌∷◌, slice_index, refl, sym, ap, ◌∙◌, subst, arith, lit<, Core, zero_word, is_ordinary_op, seen, Op, bit_of, Mark, Do}
+use Words.{op_of_mark, Task, Next, span, join, split_1, split_0, loop_1, loop_0, call, syscall, dyn, operation, respan, span_ends, repeats, loop_ends, closes}
+use Words.{returns, leaves, Loop, tree_digest, is_op, is_batch_op, shown_between, Event, Visible, IsRow, never, off, Agrees, Decoder, address_of, halted}
+use Words.{line_of, row_of, witnesses_by, Shows, operation_witnesses}
+use Words.ops
 use Rattle.facts_main.specs.Blocks.{IsBlockRow}
-use Rattle.facts_main.specs.RowFacts.{IsRow}
-use Rattle.facts_main.proofs.Says.{never, off}
-use Rattle.complete_rows.specs.Agreement.{Agrees}
-use Rattle.complete_rows.specs.Decoder.{Decoder, address_of}
-use Rattle.complete_rows.specs.Filling.{halted, line_of, row_of, witnesses_by}
-use Rattle.complete_rows.specs.Shows.{Shows}
-use Rattle.complete_rows.specs.Witnesses.{operation_witnesses}
 use Rattle.complete_rows.proofs.AgreeLemmas.{kind_is}
 use Rattle.complete_rows.proofs.BatchLemmas.{IsLaid, batch_row}
 use Rattle.complete_rows.proofs.BlockLemmas.{end_row, four_zeros, ordinary_row, start_row}
@@ -69,9 +52,9 @@ module _ {constants : List ℕ} {kernel : List (List ℕ)} {advice : List ℕ} {
   row_shown (repeats bit) k agrees sx lx =
       plain_row refl refl refl (start_row refl refl refl off (λ is. top_shown sx bit) off off)
   row_shown (span {batch = batch} read) k agrees sx lx =
-      record { block = start_row refl refl refl off off off off; batch = λ is. batch_row batch x k.whole lx; group = λ is. off is }
+      record { block = start_row refl refl refl off off off off; batch = λ is. batch_row batch x k.whole lx; group = off }
   row_shown (respan {batch = batch} read) k agrees sx lx =
-      record { block = start_row refl refl refl off off off off; batch = λ is. batch_row batch x k.whole lx; group = λ is. off is }
+      record { block = start_row refl refl refl off off off off; batch = λ is. batch_row batch x k.whole lx; group = off }
   row_shown (operation {c = c} {item = item}) k agrees sx lx = record {
     block = ordinary_row item.op x (seen constants item advice c) k.whole.ordinary k.allowed sx.syscall;
     batch = λ is. never (sym is ∙ no_batch item.op k.whole.ordinary);
@@ -96,11 +79,11 @@ module _ {constants : List ℕ} {kernel : List (List ℕ)} {advice : List ℕ} {
 pub halt_row : (d : Decoder) (v : Visible) (c : Core) → Agrees [] d c → IsRow ops.Halt (row_of d (halted v) v [])
 halt_row d v c agrees =
     plain_row refl refl refl (record {
-      condition = λ is. off is;
-      again = λ is. off is;
-      ends = λ is. off is;
-      single = λ is. off is;
-      outside = λ is. off is;
-      inside = λ is. off is;
+      condition = off;
+      again = off;
+      ends = off;
+      single = off;
+      outside = off;
+      inside = off;
       closed = λ is. col_addr (line_of d (halted v) v []) ∙ ap address_of agrees.framed;
     })

@@ -1,16 +1,9 @@
 -- Each row shows the decoder and the state before it, and its event's hash.
-use Rattle.std.proofs.Common.{◌≡◌, List, slice_index, ap, ◌∙◌, lit<}
-use Rattle.std.proofs.lemmas.List.{get_or-take}
-use Rattle.vm_ops.specs.Values.{bit_of}
-use Rattle.vm_field.specs.Machine.{Core}
-use Rattle.machine_cycles.specs.Events.{visible_of}
-use Rattle.machine_cycles.specs.declared.event.Event.{Event}
-use Rattle.machine_cycles.specs.declared.event.Visible.{Visible}
-use Rattle.complete_rows.specs.Decoder.{Decoder}
-use Rattle.complete_rows.specs.Filling.{hash_by, line_of, row_of}
-use Rattle.complete_rows.specs.Shows.{Shows}
+use Rattle.complete_rows.proofs.Words
+use Words.{◌≡◌, List, slice_index, ap, ◌∙◌, lit<, get_or-take, bit_of, Core, visible_of, Event, Visible, Decoder, hash_by, line_of, row_of, Shows}
 use Rattle.complete_rows.proofs.AgreeLemmas.{kind_is}
-use Rattle.complete_rows.proofs.ColumnLemmas.{col_clk, col_fmp, col_ctx, col_sys, col_f, col_addr, col_h, col_gc, col_ox, col_s, col_depth, col_key, col_ha, col_lv}
+use Rattle.complete_rows.proofs.ColumnLemmas.{col_clk, col_fmp, col_ctx, col_sys, col_f, col_addr, col_h, col_gc, col_ox, col_s, col_depth, col_key, col_ha}
+use Rattle.complete_rows.proofs.ColumnLemmas.{col_lv}
 
 pub shows_row : (d : Decoder) (e : Event) (n : Visible) (later : List Event) (core : Core) → e.before ≡ visible_of core
     → Shows e.op d core (row_of d e n later)

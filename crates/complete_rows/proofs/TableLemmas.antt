@@ -1,41 +1,21 @@
 -- The rows of a run show the facts of blocks, batches, groups and boundaries.
-use Rattle.std.proofs.Common.{◌≡◌, ◌⊎◌, inl, inr, ℕ, suc, ◌+◌, ◌-◌, ◌<◌, ◌≤◌, All, List, [], ◌∷◌, length, drop, slice_index, refl, sym, ap, ◌∙◌, subst, arith, lit<}
-use Rattle.std.proofs.lemmas.Bool.{cases_eq, cases_lt}
-use Rattle.std.proofs.lemmas.List.{get_or_past, length-drop, length-map}
-use Rattle.vm_field.specs.Limits.{most_cycles, most_inputs}
-use Rattle.vm_field.specs.Field.{prime}
-use Rattle.vm_field.specs.Machine.{State, IsWellFormed, filled_up, start, zero_word}
-use Rattle.vm_field.proofs.Elements.{length-filled_up}
-use Rattle.vm_field.proofs.WellFormed.{start-IsWellFormed}
-use Rattle.vm_ops.proofs.FrameLemmas.{index-filled_up}
-use Rattle.vm_ops.specs.declared.op.Op.TheVariants as ops
-use Rattle.block_tree.specs.Execution as run
-use Rattle.block_tree.specs.Steps.{Block, Steps}
-use Rattle.block_tree.specs.Trees.{Tree}
-use Rattle.block_tree.proofs.AlongLemmas.{log-nested, steps-reached, steps-shallow}
-use Rattle.block_tree.proofs.RunSteps.{run-steps}
+use Rattle.complete_rows.proofs.Words
+use Words.{◌≡◌, ◌⊎◌, inl, inr, ℕ, suc, ◌+◌, ◌-◌, ◌<◌, ◌≤◌, All, List, [], ◌∷◌, length, drop, slice_index, refl, sym, ap, ◌∙◌, subst, arith, lit<, cases_eq}
+use Words.{cases_lt, get_or_past, length-drop, length-map, most_cycles, most_inputs, prime, State, IsWellFormed, filled_up, start, zero_word, length-filled_up}
+use Words.{start-IsWellFormed, index-filled_up, Block, Steps, Tree, steps-shallow, run-steps, key_of, keys_at_start, Claim, shown, visible_of, Event, Visible}
+use Words.{row_at, op_in, ReadsAs, IsRow, Agrees, ClaimsRun, IsWholeRun, decoder_behind, events_of, filled, keys_of, IsSmallCore, AreLinked, Decoder, advance}
+use Words.{at_start, decoder_after, Line, laid_out, AreMoments, IsLastMoment, IsMoment, IsRowAt, Shows}
+use Words.ops
+use Words.run
+use Words.flags
+use Rattle.block_tree.proofs.AlongLemmas.{log-nested, steps-reached}
 use Rattle.block_tree.proofs.TaskLemmas.{steps-log}
 use Rattle.air_kit.proofs.InputKeys.{input_keys_length}
-use Rattle.air_kit.specs.DeepCells.{key_of, keys_at_start}
-use Rattle.air_kit.specs.Flags as flags
-use Rattle.air_kit.specs.Places.{Claim}
-use Rattle.machine_cycles.specs.Events.{shown, visible_of}
-use Rattle.machine_cycles.specs.declared.event.Event.{Event}
-use Rattle.machine_cycles.specs.declared.event.Visible.{Visible}
 use Rattle.facts_main.specs.Bounds.{IsFirstRow, IsLastRow}
-use Rattle.vm_table.specs.Layout.{row_at}
-use Rattle.facts_main.specs.MainRows.{op_in}
-use Rattle.facts_main.specs.RowFacts.{ReadsAs, IsRow}
-use Rattle.complete_rows.specs.Agreement.{Agrees}
-use Rattle.complete_rows.specs.BlockRows.{ClaimsRun, IsWholeRun, RowsAreCounted, RunHasMoments, RunShowsBlocks, decoder_behind, events_of, filled, keys_of}
-use Rattle.complete_rows.specs.Bounds.{IsSmallCore}
-use Rattle.complete_rows.specs.Chains.{AreLinked, RunIsLinked}
-use Rattle.complete_rows.specs.Decoder.{Decoder, advance, at_start, decoder_after}
+use Rattle.complete_rows.specs.BlockRows.{RowsAreCounted, RunHasMoments, RunShowsBlocks}
+use Rattle.complete_rows.specs.Chains.{RunIsLinked}
 use Rattle.complete_rows.specs.Filling.{deep_before, fill, rows_of_run}
-use Rattle.complete_rows.specs.Lines.{Line, laid_out}
-use Rattle.complete_rows.specs.Moments.{AreMoments, IsLastMoment, IsMoment, IsRowAt}
 use Rattle.complete_rows.specs.RunRequests.{requests_of}
-use Rattle.complete_rows.specs.Shows.{Shows}
 use Rattle.complete_rows.proofs.AgreeLemmas.{low_nothing}
 use Rattle.complete_rows.proofs.BoundLemmas.{bounded_start}
 use Rattle.complete_rows.proofs.ColumnLemmas.{below_four}
@@ -60,10 +40,23 @@ agrees_start tree inputs tape = record {
 
 module _ {constants : List ℕ} {kernel : List (List ℕ)} {limit : ℕ} {tree : Tree} {inputs tape : List ℕ} {u : State} {log : List run.Event}
     (r : IsWholeRun constants kernel limit tree inputs tape u log) where
-  steps_of : Steps constants kernel limit (Block tree ∷ []) (start inputs tape) log u
-  steps_of = run-steps constants kernel limit tree (start inputs tape) u log r.whole r.done
+  -- where it begins, its events and its rows
+  abbrev first : Decoder
+  first = at_start (length inputs - 16)
 
-  formed : IsWellFormed (start inputs tape)
+  abbrev begin : State
+  begin = start inputs tape
+
+  abbrev events : List Event
+  events = events_of constants kernel log
+
+  abbrev rows : List (List ℕ)
+  rows = filled constants kernel u log
+
+  steps_of : Steps constants kernel limit (Block tree ∷ []) begin log u
+  steps_of = run-steps constants kernel limit tree begin u log r.whole r.done
+
+  formed : IsWellFormed begin
   formed = start-IsWellFormed inputs tape r.inputs_are r.tape_is
 
   -- the states of a run are small
@@ -83,39 +76,33 @@ module _ {constants : List ℕ} {kernel : List (List ℕ)} {limit : ℕ} {tree :
       )
 
   -- what is seen before the first event is the start
-  deep_is : deep_before (visible_of u.core) (events_of constants kernel log) ≡ length inputs - 16
+  deep_is : deep_before (visible_of u.core) events ≡ length inputs - 16
   unfolding start
   deep_is =
       let deep : length (filled_up inputs) - 16 ≡ length inputs - 16 = omega (arith, length-filled_up inputs) in
       ap (λ (v : Visible). v.depth - 16) (behind_is steps_of) ∙ deep
 
   pub keys_asked : (requests_of constants (visible_of u.core) (events_of constants kernel log)).keys ≡ keys_of constants kernel inputs log
-  keys_asked = ap (λ deep. (decoder_after (at_start deep) (events_of constants kernel log)).keys) deep_is
+  keys_asked = ap (λ deep. (decoder_after (at_start deep) events).keys) deep_is
 
-  filled_run : Filled constants kernel limit (Block tree ∷ []) (at_start (length inputs - 16)) (start inputs tape) u
-      (events_of constants kernel log) (filled constants kernel u log)
+  filled_run : Filled constants kernel limit (Block tree ∷ []) first begin u events rows
   unfolding rows_of_run start
   filled_run =
-      let few : length (events_of constants kernel log) ≤ most_cycles
+      let few : length events ≤ most_cycles
       = let within = steps_within constants kernel limit steps_of (omega arith) in
       let limited = r.within in omega (arith, within, limited, length-map log (shown constants kernel)) in
-      subst
-      (λ deep. Filled constants kernel limit (Block tree ∷ []) (at_start (length inputs - 16)) (start inputs tape) u
-      (events_of constants kernel log) (fill (visible_of u.core) (at_start deep) (events_of constants kernel log)))
-      (sym deep_is)
-      (along r.constants_are steps_of (r.whole, tt) formed (at_start (length inputs - 16)) (agrees_start tree inputs tape)
-      (bounded_start (length inputs - 16) (events_of constants kernel log) few) small.0 small.1)
+      subst (λ deep. Filled constants kernel limit (Block tree ∷ []) first begin u events (fill (visible_of u.core) (at_start deep) events)) (sym deep_is)
+      (along r.constants_are steps_of (r.whole, tt) formed first (agrees_start tree inputs tape)
+      (bounded_start (length inputs - 16) events few) small.0 small.1)
 
   pub linked : AreLinked constants kernel limit u (Block tree ∷ []) (at_start (length inputs - 16)) (start inputs tape)
       (events_of constants kernel log) (filled constants kernel u log)
   linked =
-      subst (AreLinked constants kernel limit u (Block tree ∷ []) (at_start (length inputs - 16)) (start inputs tape) (events_of constants kernel log))
-      (sym filled_run.are) filled_run.linked
+      subst (AreLinked constants kernel limit u (Block tree ∷ []) first begin events) (sym filled_run.are) filled_run.linked
 
-  first_place : IsRowAt constants (Block tree ∷ []) (at_start (length inputs - 16)) (start inputs tape).core (row_at (filled constants kernel u log) 0)
+  first_place : IsRowAt constants (Block tree ∷ []) first begin.core (row_at rows 0)
   first_place =
-      subst (λ x. IsRowAt constants (Block tree ∷ []) (at_start (length inputs - 16)) (start inputs tape).core x)
-      (sym (ap (λ rows. row_at rows 0) filled_run.are)) filled_run.at
+      subst (IsRowAt constants (Block tree ∷ []) first begin.core) (sym (ap (λ xs. row_at xs 0) filled_run.are)) filled_run.at
 
 -- ---- each row
 

@@ -1,16 +1,10 @@
 -- The trace of a run is accepted: bus by bus each tuple is asked as often as it is given.
-use Rattle.std.proofs.Common.{◌≡◌, ◌≢◌, ℕ, List, sym, ap, subst, arith}
-use Rattle.vm_field.specs.Machine.{State}
+use Rattle.complete_rows.proofs.Words
+use Words.{◌≡◌, ◌≢◌, ℕ, List, sym, ap, subst, arith, State, Bus, asked_on, given_on, Claim, Requests, Trace, filled}
+use Words.bus
 use Rattle.buses.specs.Names.{bus_number}
-use Rattle.buses.specs.declared.bus.Bus.{Bus}
-use Rattle.buses.specs.declared.bus.Bus.TheVariants as bus
-use Rattle.air_kit.specs.Acceptance.{asked_on, given_on}
-use Rattle.air_kit.specs.Places.{Claim}
 use Rattle.air_kit.specs.Requests.{Answers}
 use Rattle.air_kit.specs.Traces.{claim_of}
-use Rattle.air_kit.specs.declared.requests.Requests.{Requests}
-use Rattle.air_kit.specs.declared.trace.Trace.{Trace}
-use Rattle.complete_rows.specs.BlockRows.{filled}
 use Rattle.complete_requests.specs.Asked.{requests}
 use Rattle.complete_trace.specs.Acceptance.{RunIsAccepted}
 use Rattle.complete_trace.proofs.BlockBuses.{blocks_alike, children_alike, groups_alike, loops_alike}

@@ -1,12 +1,8 @@
 -- The buses of blocks, children, loops and groups: the small tables have no part in them.
-use Rattle.std.proofs.Common.{◌≡◌, ℕ, ◌+◌, List, [], ◌∷◌, ◌∙◌, arith}
-use Rattle.buses.specs.Counts.{counted, over_rows, with_next}
-use Rattle.buses.specs.declared.bus.Bus.TheVariants as bus
-use Rattle.buses.proofs.Counting.{counted-none}
-use Rattle.air_kit.specs.Acceptance.{asked_on, given_on}
-use Rattle.air_kit.specs.MainTuples.{child, blocks_asked, blocks_given, children_asked, children_given, groups_asked, groups_given, loops_asked, loops_given}
-use Rattle.air_kit.specs.Places.{Claim}
-use Rattle.air_kit.specs.declared.trace.Trace.{Trace}
+use Rattle.complete_rows.proofs.Words
+use Words.{◌≡◌, ℕ, ◌+◌, List, [], ◌∷◌, ◌∙◌, arith, counted, over_rows, with_next, counted-none, asked_on, given_on, child, blocks_asked, blocks_given}
+use Words.{children_asked, children_given, groups_asked, groups_given, loops_asked, loops_given, Claim, Trace}
+use Words.bus
 use Rattle.complete_trace.proofs.Quiet.{chips_give, chips_quiet}
 
 named_sides : (asked more named given rest : ℕ) → named + given ≡ asked → more ≡ 0 → rest ≡ 0 → asked + more ≡ named + given + rest

@@ -1,27 +1,15 @@
 -- How the rows of blocks move the stack: it is kept, the condition on top is taken off, or a call hides or brings back the cells
 -- below the sixteenth.
-use Rattle.std.proofs.Common.{◌≡◌, ◌≢◌, ℕ, ◌+◌, ◌-◌, ◌^◌, ◌<◌, ◌≤◌, max, min, Bool, true, false, not, ◌&&◌, ◌||◌, eqb, List, [], ◌∷◌, ◌++◌, length, take, drop, slice_index, refl, sym, ap, ◌∙◌, subst, arith, lit<}
+use Rattle.complete_rows.proofs.Words
+use Words.{◌≡◌, ◌≢◌, ℕ, ◌+◌, ◌-◌, ◌^◌, ◌<◌, ◌≤◌, max, Bool, true, false, not, ◌&&◌, ◌||◌, eqb, List, [], ◌∷◌, ◌++◌, length, take, drop, slice_index, refl, sym}
+use Words.{ap, ◌∙◌, subst, arith, lit<, get_or_append_left, get_or_past, get_or-take, length-drop, length-take, length-filled_up, felt_mul-felt_inv, prime}
+use Words.{felt_inv, Core, filled_up, ◌⊟◌, ◌⊠◌, index-filled_up, is_ordinary_op, takes_of, leaves_of, Op, depth, inv, key, s, key_of, is_left, is_right}
+use Words.{is_call_op, never, off, IsStackRow, MovesStack, mover, Decoder, Shows}
+use Words.ops
+use Rattle.std.proofs.Common.{min}
 use Rattle.std.proofs.lemmas.Grind.{get_or_after_one}
-use Rattle.std.proofs.lemmas.List.{get_or_append_left, get_or_past, get_or-take, length-drop, length-take}
-use Rattle.vm_field.proofs.Elements.{length-filled_up}
-use Rattle.vm_field.proofs.Inverses.{felt_mul-felt_inv}
-use Rattle.vm_field.specs.Field.{prime, felt_inv}
-use Rattle.vm_field.specs.Machine.{Core, filled_up}
-use Rattle.vm_field.specs.Signs.{◌⊟◌, ◌⊠◌}
-use Rattle.vm_ops.proofs.FrameLemmas.{index-filled_up}
-use Rattle.vm_ops.specs.Codes.{is_ordinary_op}
-use Rattle.vm_ops.specs.Moves.{takes_of, leaves_of}
-use Rattle.vm_ops.specs.declared.op.Op.{Op}
-use Rattle.vm_ops.specs.declared.op.Op.TheVariants as ops
-use Rattle.vm_table.specs.MainColumns.{depth, inv, s}
-use Rattle.air_kit.specs.DeepCells.{key_of}
-use Rattle.air_kit.specs.Flags.{is_left, is_right}
-use Rattle.air_kit.specs.MainTuples.{is_call_op}
-use Rattle.facts_main.proofs.Says.{never, off}
 use Rattle.facts_main.specs.Blocks.{ends_call}
-use Rattle.facts_main.specs.Stack.{IsStackRow, MovesStack, ShiftsCells, keeps_stack, mover}
-use Rattle.complete_rows.specs.Decoder.{Decoder}
-use Rattle.complete_rows.specs.Shows.{Shows}
+use Rattle.facts_main.specs.Stack.{ShiftsCells, keeps_stack}
 use Rattle.complete_trace.proofs.QuietOps.{apart, leaves_cells, right_off, top_off, two_off}
 
 -- ---- a row by itself
@@ -58,33 +46,36 @@ stays : {op next : Op} {x y : List ℕ} {d after : Decoder} {c b : Core} → Aro
     → slice_index b.stack j ≡ slice_index c.stack k → s y j ≡ s x k
 stays a j k low high e = a.behind.cells j low ∙ e ∙ sym (a.here.cells k high)
 
--- the cells stay in their places
-pub cells_stay : (op : Op) (x y : List ℕ) → takes_of op ≡ 0 → leaves_of op ≡ 0 → is_left op ≡ false → ((j : ℕ) → j < 16 → s y j ≡ s x j)
-    → ShiftsCells op x y
-cells_stay op x y takes leaves still same = record {
-  brings = λ j from low flag. (
-      let place : j ≡ j + takes_of op - leaves_of op = omega (arith, takes, leaves) in
-      same j low ∙ ap (λ n. s x n) place
-      );
-  last = λ is flat. never (sym is ∙ still);
+-- where no shift moves the cells, by the depth and the key behind a call and behind all others
+pub unmoved : {op : Op} {x y : List ℕ} → is_ordinary_op op ≡ false → mover op x ≡ op → is_left op ≡ false → takes_of op ≡ 0 → leaves_of op ≡ 0
+    → (is_call_op op ≡ true → (depth y ≡ 16) × (key y ≡ 0)) → (keeps_stack op x ≡ true → (depth y ≡ depth x) × (key y ≡ key x))
+    → ((j : ℕ) → j < 16 → s y j ≡ s x j) → MovesStack op x y
+unmoved {op = op} {x = x} {y = y} is moves still takes leaves call keeps same = record {
+  depth_moves = record {
+    right = λ e. never (sym e ∙ right_off op is);
+    left_flat = λ e. never (sym e ∙ ap is_left moves ∙ still);
+    left_deep = λ e. never (sym e ∙ ap is_left moves ∙ still);
+    call = call;
+    same = keeps;
+  };
+  shifts = subst (λ m. ShiftsCells m x y) (sym moves) (record {
+    brings = λ j from low flag. (
+        let place : j ≡ j + takes_of op - leaves_of op = omega (arith, takes, leaves) in
+        same j low ∙ ap (λ n. s x n) place
+        );
+    last = λ is flat. never (sym is ∙ still);
+  });
+  leaves = leaves_cells op x y is;
 }
 
 -- the stack is kept
 pub kept : {op next : Op} {x y : List ℕ} {d after : Decoder} {c b : Core} → Around op next x y d after c b → is_ordinary_op op ≡ false
     → mover op x ≡ op → is_left op ≡ false → is_call_op op ≡ false → takes_of op ≡ 0 → leaves_of op ≡ 0
     → b.stack ≡ c.stack → key_of after.keys ≡ key_of d.keys → MovesStack op x y
-kept {op = op} {x = x} {y = y} a is moves still no_call takes leaves stack keys = record {
-  depth_moves = record {
-    right = λ e. never (sym e ∙ right_off op is);
-    left_flat = λ e flat. never (sym e ∙ ap is_left moves ∙ still);
-    left_deep = λ e more. never (sym e ∙ ap is_left moves ∙ still);
-    call = λ e. never (sym e ∙ no_call);
-    same = λ e. (a.behind.deep ∙ ap length stack ∙ sym a.here.deep, a.behind.key_is ∙ keys ∙ sym a.here.key_is);
-  };
-  shifts = subst (λ m. ShiftsCells m x y) (sym moves) (cells_stay op x y takes leaves still
-      (λ j low. stays a j j low low (ap (λ v. slice_index v j) stack)));
-  leaves = leaves_cells op x y is;
-}
+kept a is moves still no_call takes leaves stack keys =
+    unmoved is moves still takes leaves (λ e. never (sym e ∙ no_call))
+    (λ e. (a.behind.deep ∙ ap length stack ∙ sym a.here.deep, a.behind.key_is ∙ keys ∙ sym a.here.key_is))
+    (λ j low. stays a j j low low (ap (λ v. slice_index v j) stack))
 
 -- ---- the condition on top is taken off
 
@@ -154,34 +145,16 @@ pub called : {op next : Op} {x y : List ℕ} {d after : Decoder} {c b : Core} �
 called {op = op} {x = x} {y = y} {c = c} {b = b} a is moves still call takes leaves stack keys deep =
     let count : length b.stack ≡ min 16 (length c.stack) = ap length stack ∙ length-take 16 c.stack in
     let deep_behind : depth y ≡ length b.stack = a.behind.deep in
-    record {
-      depth_moves = record {
-        right = λ e. never (sym e ∙ right_off op is);
-        left_flat = λ e flat. never (sym e ∙ ap is_left moves ∙ still);
-        left_deep = λ e more. never (sym e ∙ ap is_left moves ∙ still);
-        call = λ e. (omega (arith, count, deep, deep_behind), a.behind.key_is ∙ ap key_of keys);
-        same = λ e. never (sym e ∙ keeps_no_call op x call);
-      };
-      shifts = subst (λ m. ShiftsCells m x y) (sym moves) (cells_stay op x y takes leaves still
-          (λ j low. stays a j j low low (ap (λ v. slice_index v j) stack ∙ get_or-take 16 c.stack j 0 low)));
-      leaves = leaves_cells op x y is;
-    }
+    unmoved is moves still takes leaves (λ e. (omega (arith, count, deep, deep_behind), a.behind.key_is ∙ ap key_of keys))
+    (λ e. never (sym e ∙ keeps_no_call op x call))
+    (λ j low. stays a j j low low (ap (λ v. slice_index v j) stack ∙ get_or-take 16 c.stack j 0 low))
 
 -- the END of a call
 pub returned : (hidden : List ℕ) {next : Op} {x y : List ℕ} {d after : Decoder} {c b : Core} → Around ops.End next x y d after c b
     → mover ops.End x ≡ ops.End → ends_call ops.End x ≡ true → b.stack ≡ c.stack ++ hidden → 16 ≤ length c.stack → MovesStack ops.End x y
-returned hidden {x = x} {y = y} {c = c} a moves ends stack deep = record {
-  depth_moves = record {
-    right = λ e. off e;
-    left_flat = λ e flat. off (sym (ap is_left moves) ∙ e);
-    left_deep = λ e more. off (sym (ap is_left moves) ∙ e);
-    call = λ e. off e;
-    same = λ e. never (sym e ∙ keeps_not_end ends);
-  };
-  shifts = subst (λ m. ShiftsCells m x y) (sym moves) (cells_stay ops.End x y refl refl refl
-      (λ j low. stays a j j low low (ap (λ v. slice_index v j) stack ∙ get_or_append_left c.stack hidden 0 j (omega (arith, low, deep)))));
-  leaves = leaves_cells ops.End x y refl;
-}
+returned hidden {x = x} {y = y} {c = c} a moves ends stack deep =
+    unmoved refl moves refl refl refl off (λ e. never (sym e ∙ keeps_not_end ends))
+    (λ j low. stays a j j low low (ap (λ v. slice_index v j) stack ∙ get_or_append_left c.stack hidden 0 j (omega (arith, low, deep))))
   where
     keeps_not_end : ends_call ops.End x ≡ true → keeps_stack ops.End x ≡ false
     keeps_not_end e = go (is_left (mover ops.End x)) (ends_call ops.End x) e

@@ -1,27 +1,13 @@
 -- The stack of each row of a block, and of the row behind it.
-use Rattle.std.proofs.Common.{◌≡◌, ℕ, ◌+◌, ◌^◌, ◌<◌, ◌≤◌, true, false, cond, eqb, List, [], length, slice_index, refl, sym, ap, ap₂, ◌∙◌, arith}
-use Rattle.vm_field.specs.Field.{felt_inv, felt_add}
-use Rattle.vm_field.specs.Machine.{Core}
-use Rattle.vm_field.specs.Signs.{◌⊟◌}
-use Rattle.vm_ops.specs.Codes.{is_ordinary_op, kind_of}
-use Rattle.vm_ops.specs.declared.op.Op.{Op}
-use Rattle.vm_ops.specs.declared.op.Op.TheVariants as ops
-use Rattle.vm_table.specs.MainColumns.{depth, h, inv}
-use Rattle.block_tree.specs.Behind.{core_behind}
-use Rattle.block_tree.specs.Cycles.{Mark, StartOpaque, StartSplit, StartLoop, StartCall, StartSyscall, Repeat, Do, End, EndSpan, EndLoop, EndCall, EndSyscall}
-use Rattle.block_tree.specs.Rows.{op_of_mark}
-use Rattle.machine_cycles.specs.Events.{shown_between, visible_of}
-use Rattle.machine_cycles.specs.declared.event.Visible.{Visible}
-use Rattle.machine_cycles.specs.declared.event.Event.{Event}
-use Rattle.facts_main.proofs.Says.{never, off}
+use Rattle.complete_rows.proofs.Words
+use Words.{◌≡◌, ℕ, ◌+◌, ◌^◌, ◌<◌, ◌≤◌, true, false, cond, eqb, List, [], length, slice_index, refl, sym, ap, ap₂, ◌∙◌, arith, felt_inv, Core, ◌⊟◌}
+use Words.{is_ordinary_op, kind_of, Op, depth, h, inv, core_behind, Mark, StartOpaque, StartSyscall, Do, op_of_mark, shown_between, visible_of, Visible, Event}
+use Words.{never, off, IsLimbRow, MovesLimbs, IsStackRow, MovesStack, mover, key_of, Decoder, advance, halted, hash_by, line_of, row_of, Shows}
+use Words.ops
+use Rattle.vm_field.specs.Field.{felt_add}
+use Rattle.block_tree.specs.Cycles.{StartSplit, StartLoop, StartCall, Repeat, End, EndSpan, EndLoop, EndCall, EndSyscall}
 use Rattle.facts_main.specs.Blocks.{ends_call}
-use Rattle.facts_main.specs.Limbs.{IsLimbRow, MovesLimbs}
-use Rattle.facts_main.specs.Stack.{IsStackRow, MovesStack, mover}
 use Rattle.facts_steps.specs.Lookups.{LooksUpLimbs, LooksUpBits}
-use Rattle.air_kit.specs.DeepCells.{key_of}
-use Rattle.complete_rows.specs.Decoder.{Decoder, advance}
-use Rattle.complete_rows.specs.Filling.{halted, hash_by, line_of, row_of}
-use Rattle.complete_rows.specs.Shows.{Shows}
 use Rattle.complete_rows.proofs.AgreeLemmas.{end_keys}
 use Rattle.complete_rows.proofs.BlockLemmas.{behind_digest}
 use Rattle.complete_rows.proofs.ColumnLemmas.{col_depth, col_inv}
@@ -85,18 +71,18 @@ module _ {constants : List ℕ} {kernel : List (List ℕ)} {advice : List ℕ} (
       → StackFacts (op_of_mark mark) x y
   block_facts StartOpaque is k keyed sx hash inverse sy = absurd k.allowed
   block_facts (StartSplit on_one on_zero) is k keyed sx hash inverse sy =
-      facts refl k sx inverse (λ e. off e)
+      facts refl k sx inverse off
       (popped ops.Split (around sx sy) refl refl refl refl refl refl refl refl keyed (shallow k))
   block_facts (StartLoop body) is k keyed sx hash inverse sy =
-      facts refl k sx inverse (λ e. off e)
+      facts refl k sx inverse off
       (popped ops.Loop (around sx sy) refl refl refl refl refl refl refl refl keyed (shallow k))
   block_facts (Repeat body) is k keyed sx hash inverse sy =
-      facts refl k sx inverse (λ e. off e)
+      facts refl k sx inverse off
       (popped ops.Repeat (around sx sy) refl refl refl refl refl refl refl refl keyed (shallow k))
   block_facts (StartCall callee) is k keyed sx hash inverse sy =
-      facts refl k sx inverse (λ e. off e) (called (around sx sy) refl refl refl refl refl refl refl refl k.formed.deep)
+      facts refl k sx inverse off (called (around sx sy) refl refl refl refl refl refl refl refl k.formed.deep)
   block_facts (StartSyscall callee) is k keyed sx hash inverse sy =
-      facts refl k sx inverse (λ e. off e) (called (around sx sy) refl refl refl refl refl refl refl refl k.formed.deep)
+      facts refl k sx inverse off (called (around sx sy) refl refl refl refl refl refl refl refl k.formed.deep)
   block_facts (Do item) is k keyed sx hash inverse sy = never (sym k.whole.ordinary ∙ is)
   block_facts (End digest) is k keyed sx hash inverse sy =
       let z = behind_digest digest 0 0 0 0 x k.whole.size hash in
@@ -120,7 +106,7 @@ module _ {constants : List ℕ} {kernel : List (List ℕ)} {advice : List ℕ} (
       facts refl k sx inverse (λ e. flat_stack sx k.allowed k.formed.deep)
       (returned frame.hidden (around sx sy) (end_moves x z.0) (end_calls x 0 1 z.2 z.3) refl k.formed.deep)
   block_facts mark is k keyed sx hash inverse sy =
-      facts refl k sx inverse (λ e. off e) (kept (around sx sy) refl refl refl refl refl refl refl refl)
+      facts refl k sx inverse off (kept (around sx sy) refl refl refl refl refl refl refl refl)
 
 -- the row of HALT
 pub halt_facts : (d : Decoder) (c : Core) (v : Visible) → v ≡ visible_of c → 16 ≤ length c.stack → length c.stack < 2 ^ 20
@@ -130,6 +116,6 @@ halt_facts d c v is enough few =
     let shown : depth x ≡ v.depth = col_depth (line_of d (halted v) v []) in
     let deep : depth x ≡ length c.stack = shown ∙ ap (λ u. u.depth) is in (
       stack_row ops.Halt x refl (omega (arith, deep, enough)) (omega (arith, deep, few))
-          (col_inv (line_of d (halted v) v []) ∙ ap (λ n. felt_inv (n ⊟ 16)) (sym shown)) (λ e. off e),
+          (col_inv (line_of d (halted v) v []) ∙ ap (λ n. felt_inv (n ⊟ 16)) (sym shown)) off,
       limb_row ops.Halt x refl,
     )

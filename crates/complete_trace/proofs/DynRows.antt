@@ -1,22 +1,12 @@
 -- The row of a dynamic block shows the zeros that it is hashed from.
-use Rattle.std.proofs.Common.{◌≡◌, ℕ, true, false, List, ◌++◌, slice_index, refl, sym, ap, ◌∙◌}
-use Rattle.vm_field.specs.Machine.{State, zero_word}
-use Rattle.vm_ops.specs.Codes.{is_ordinary_op}
-use Rattle.vm_ops.specs.declared.op.Op.{Op}
-use Rattle.vm_ops.specs.declared.op.Op.TheVariants as ops
-use Rattle.vm_table.specs.MainColumns.{h}
-use Rattle.block_tree.specs.Cycles.{Mark, StartOpaque, StartDyn, Do}
-use Rattle.block_tree.specs.Rows.{hash_of, op_of_mark}
-use Rattle.air_kit.specs.Flags as flags
-use Rattle.air_kit.specs.Flags.{is_op}
-use Rattle.air_kit.specs.MainTuples.{eight}
-use Rattle.facts_main.specs.Dynamic.{IsDynRow}
-use Rattle.facts_main.proofs.Says.{off}
-use Rattle.complete_rows.specs.Decoder.{Decoder}
-use Rattle.complete_rows.specs.Moments.{IsLastMoment, IsMoment}
+use Rattle.complete_rows.proofs.Words
+use Words.{◌≡◌, ℕ, true, false, List, ◌++◌, slice_index, refl, sym, ap, ◌∙◌, State, zero_word, is_ordinary_op, Op, h, Mark, StartOpaque, StartDyn, Do, hash_of}
+use Words.{op_of_mark, is_op, eight, IsDynRow, off, Decoder, IsLastMoment, IsMoment}
+use Words.ops
+use Words.flags
+use Rattle.complete_rows.proofs.BlockLemmas.{op_same}
 use Rattle.complete_rows.proofs.ColumnLemmas.{below_four}
 use Rattle.complete_rows.proofs.MomentFacts.{end_op, moment_op}
-use Rattle.complete_requests.proofs.KernelLaw.{op_same}
 use Rattle.complete_requests.proofs.MomentCells.{moment_eight}
 
 dyn_opens : (op : Op) → is_op op ops.Dyn ≡ true → is_ordinary_op op ≡ false

@@ -1,12 +1,8 @@
 -- What the rows of a run give and ask: the buses of blocks by themselves, the others against requests and the cells that are left.
-use Rattle.std.proofs.Common.{◌≡◌, ℕ, ◌+◌, List, [], ◌∷◌, sym, subst}
-use Rattle.vm_field.specs.Machine.{State}
-use Rattle.block_tree.specs.Execution as run
-use Rattle.block_tree.specs.Trees.{Tree, tree_digest}
-use Rattle.buses.specs.Counts.{counted, over_rows, with_next}
-use Rattle.air_kit.specs.MainTuples.{child, blocks_asked, blocks_given, children_asked, children_given, groups_asked, groups_given, loops_asked, loops_given}
-use Rattle.air_kit.specs.declared.requests.Requests.{Requests}
-use Rattle.complete_rows.specs.BlockRows.{IsWholeRun, filled}
+use Rattle.complete_rows.proofs.Words
+use Words.{◌≡◌, ℕ, ◌+◌, List, [], ◌∷◌, sym, subst, State, Tree, tree_digest, counted, over_rows, with_next, child, blocks_asked, blocks_given, children_asked}
+use Words.{children_given, groups_asked, groups_given, loops_asked, loops_given, Requests, IsWholeRun, filled}
+use Words.run
 use Rattle.complete_rows.proofs.TableLemmas.{keys_asked}
 use Rattle.complete_buses.proofs.BlockLaw.{blocks_even}
 use Rattle.complete_buses.proofs.ChildLaw.{children_even}

@@ -1,28 +1,15 @@
 -- What the rows of a moment of a run show of the stack and of limbs.
-use Rattle.std.proofs.Common.{◌≡◌, ℕ, ◌≤◌, Bool, true, false, List, length, refl, sym, ap, ◌∙◌, subst, arith}
-use Rattle.vm_field.specs.Limits.{most_cycles, number_of_constants}
-use Rattle.vm_field.specs.Machine.{State}
-use Rattle.vm_ops.specs.declared.item.Item.{Item}
-use Rattle.vm_ops.specs.Codes.{is_ordinary_op}
-use Rattle.vm_ops.specs.declared.op.Op.TheVariants as ops
-use Rattle.vm_table.specs.MainColumns.{inv, lv}
-use Rattle.block_tree.specs.Cycles.{Mark, Do}
-use Rattle.block_tree.specs.Marks.{IsWholeMark}
-use Rattle.block_tree.specs.Rows.{op_of_mark}
-use Rattle.block_tree.specs.Steps.{IsCycle}
-use Rattle.air_kit.specs.Flags as flags
-use Rattle.machine_cycles.specs.Events.{visible_of}
-use Rattle.facts_main.specs.Limbs.{IsLimbRow}
-use Rattle.facts_main.specs.Stack.{IsStackRow}
+use Rattle.complete_rows.proofs.Words
+use Words.{◌≡◌, ℕ, ◌≤◌, Bool, true, false, List, length, refl, sym, ap, ◌∙◌, subst, arith, most_cycles, number_of_constants, State, Item, is_ordinary_op, inv}
+use Words.{lv, Mark, Do, IsWholeMark, op_of_mark, IsCycle, visible_of, IsLimbRow, IsStackRow, Decoder, advance, row_of, IsLastMoment, IsMoment, event_at, Shows}
+use Words.{off}
+use Words.ops
+use Words.flags
 use Rattle.facts_steps.specs.Filling.{FillsRows, elsewhere_of}
-use Rattle.complete_rows.specs.Decoder.{Decoder, advance}
-use Rattle.complete_rows.specs.Filling.{row_of}
-use Rattle.complete_rows.specs.Moments.{IsLastMoment, IsMoment, event_at}
-use Rattle.complete_rows.specs.Shows.{Shows}
-use Rattle.complete_rows.proofs.MomentFacts.{behind_shows, end_op, end_shows, known, moment_behind, moment_hash, moment_line, moment_op, moment_shows, place_shows}
+use Rattle.complete_rows.proofs.MomentFacts.{behind_shows, end_op, end_shows, known, moment_behind, moment_hash, moment_line, moment_op, moment_shows}
+use Rattle.complete_rows.proofs.MomentFacts.{place_shows}
 use Rattle.complete_rows.proofs.ColumnLemmas.{col_inv}
 use Rattle.complete_trace.specs.StackRows.{MomentFills}
-use Rattle.facts_main.proofs.Says.{off}
 use Rattle.complete_trace.proofs.BlockStacks.{StackFacts, block_facts, halt_facts}
 use Rattle.complete_trace.proofs.Fillings.{do_fills}
 
@@ -35,7 +22,7 @@ moment_fills constants kernel limit x y len within m item is =
     in
     let k = known m within in
     subst (λ z. FillsRows constants item z y (elsewhere_of m.s) (elsewhere_of m.t)) (sym m.row)
-    (subst P (sym is) (λ cycle whole shows. do_fills constants kernel limit item m.s m.t m.d m.later y (flags.op_of y) len cycle whole m.before m.behind
+    (subst P (sym is) (λ cycle whole shows. do_fills cycle m.d m.later y (flags.op_of y) len whole m.before m.behind
     (omega (arith, k.early)) (omega (arith, k.early, k.small.depth)) m.agrees.keyed shows) m.cycle m.whole (place_shows m.next))
 
 -- a row of an ordinary operation

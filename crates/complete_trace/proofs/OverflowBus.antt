@@ -1,15 +1,10 @@
 -- The bus of overflow: the statement and the rows give, the rows and the table of cells left ask.
-use Rattle.std.proofs.Common.{◌≡◌, ℕ, ◌+◌, List, [], ◌∙◌, arith}
-use Rattle.buses.specs.Counts.{counted, over_rows, with_next}
-use Rattle.buses.specs.declared.bus.Bus.TheVariants as bus
-use Rattle.buses.proofs.Counting.{counted-none}
-use Rattle.air_kit.specs.Acceptance.{asked_on, given_on}
+use Rattle.complete_rows.proofs.Words
+use Words.{◌≡◌, ℕ, ◌+◌, List, [], ◌∙◌, arith, counted, over_rows, with_next, counted-none, asked_on, given_on, overflow_asked, overflow_given, Claim, Trace}
+use Words.bus
+use Words.table
 use Rattle.air_kit.specs.ChipTuples.{chip_asked}
 use Rattle.air_kit.specs.DeepCells.{tuples_at_start}
-use Rattle.air_kit.specs.MainTuples.{overflow_asked, overflow_given}
-use Rattle.air_kit.specs.Places.{Claim}
-use Rattle.air_kit.specs.declared.trace.TableName.TheVariants as table
-use Rattle.air_kit.specs.declared.trace.Trace.{Trace}
 use Rattle.complete_trace.proofs.Quiet.{chips_give, rows_quiet}
 
 sixth_alone : (a b c d e f : ℕ) → a ≡ 0 → b ≡ 0 → c ≡ 0 → d ≡ 0 → e ≡ 0 → a + (b + (c + (d + (e + (f + 0))))) ≡ f

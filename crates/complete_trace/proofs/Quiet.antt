@@ -1,13 +1,9 @@
 -- Tables that give or ask nothing.
-use Rattle.std.proofs.Common.{◌≡◌, ℕ, zero, suc, ◌+◌, List, [], length, Option, Some, None, refl, arith}
-use Rattle.std.specs.List.{slice_get}
-use Rattle.buses.specs.Counts.{counted, over_first, over_rows, total, with_next}
-use Rattle.buses.specs.declared.bus.Bus.{Bus}
-use Rattle.buses.proofs.Counting.{counted-none}
+use Rattle.complete_rows.proofs.Words
+use Words.{◌≡◌, ℕ, zero, suc, ◌+◌, List, [], length, Option, Some, None, refl, arith, slice_get, counted, over_first, over_rows, total, with_next, Bus}
+use Words.{counted-none, Trace, row_at}
 use Rattle.air_kit.specs.Acceptance.{over_chips}
 use Rattle.air_kit.specs.ChipTuples.{chip_given}
-use Rattle.air_kit.specs.declared.trace.Trace.{Trace}
-use Rattle.vm_table.specs.Layout.{row_at}
 
 total_none : (n : ℕ) (f : ℕ → ℕ) → ((i : ℕ) → f i ≡ 0) → total n f ≡ 0
 unfolding total

@@ -1,17 +1,13 @@
 -- What no operation of blocks does: it leaves no cell, tests no operand and has no limbs.
-use Rattle.std.proofs.Common.{◌≡◌, ℕ, Bool, true, false, not, ◌&&◌, ltb, eqb, List, refl, sym, ap, ◌∙◌, arith}
-use Rattle.std.proofs.lemmas.Bool.{eqb-true}
-use Rattle.vm_ops.specs.Codes.{code_of, is_ordinary_op}
-use Rattle.vm_ops.specs.Moves.{leaves_of}
-use Rattle.vm_ops.specs.declared.op.Op.{Op}
-use Rattle.vm_ops.specs.declared.op.Op.TheVariants as ops
-use Rattle.air_kit.specs.Flags.{is_op, is_right}
+use Rattle.complete_rows.proofs.Words
+use Words.{◌≡◌, ℕ, Bool, true, false, not, ◌&&◌, eqb, List, refl, sym, ap, ◌∙◌, arith, eqb-true, code_of, is_ordinary_op, leaves_of, Op, is_op, is_right}
+use Words.{IsLimbRow, MovesLimbs, has_high_word, never, ordinary-below}
+use Words.ops
+use Rattle.std.proofs.Common.{ltb}
 use Rattle.air_kit.specs.MainTuples.{count_of_limbs}
-use Rattle.facts_main.specs.Limbs.{IsLimbRow, MovesLimbs, has_high_word, has_second, has_third}
+use Rattle.facts_main.specs.Limbs.{has_second, has_third}
 use Rattle.facts_main.specs.Stack.{LeavesCells, tests_top, tests_two}
-use Rattle.facts_main.proofs.Says.{never}
 use Rattle.facts_steps.specs.Lookups.{LooksUpLimbs, LooksUpBits, is_bitwise}
-use Rattle.vm_ops.proofs.CodeLemmas.{ordinary-below}
 
 gate : (t a : Bool) → not t && a ≡ false → t ≡ false → a ≡ false
 gate true a e is = never is
@@ -73,7 +69,7 @@ pub leaves_none : (op : Op) → is_ordinary_op op ≡ false → leaves_of op ≡
 leaves_none op is =
     eqb-true (leaves_of op) 0 (not_false (eqb (leaves_of op) 0) (gate (is_ordinary_op op) (not (eqb (leaves_of op) 0)) (no_leaves op) is))
 
-limbs_none : (op : Op) → is_ordinary_op op ≡ false → count_of_limbs op ≡ 0
+pub limbs_none : (op : Op) → is_ordinary_op op ≡ false → count_of_limbs op ≡ 0
 limbs_none op is =
     eqb-true (count_of_limbs op) 0 (not_false (eqb (count_of_limbs op) 0) (gate (is_ordinary_op op) (not (eqb (count_of_limbs op) 0)) (no_limbs op) is))
 

@@ -1,14 +1,9 @@
 -- The bus of numbers of 16 bits: the rows and the table of memory ask, the table of ranges gives.
-use Rattle.std.proofs.Common.{◌≡◌, ℕ, ◌+◌, List, [], ◌∷◌, map, arith}
-use Rattle.buses.specs.Counts.{counted, once, over_rows, with_next}
-use Rattle.buses.specs.declared.bus.Bus.TheVariants as bus
-use Rattle.buses.proofs.Counting.{counted-none}
-use Rattle.air_kit.specs.Acceptance.{asked_on, given_on}
+use Rattle.complete_rows.proofs.Words
+use Words.{◌≡◌, ℕ, ◌+◌, List, [], ◌∷◌, map, arith, counted, once, over_rows, with_next, counted-none, asked_on, given_on, range_asked, Claim, Trace}
+use Words.bus
+use Words.table
 use Rattle.air_kit.specs.ChipTuples.{chip_given, memory_ranges}
-use Rattle.air_kit.specs.MainTuples.{range_asked}
-use Rattle.air_kit.specs.Places.{Claim}
-use Rattle.air_kit.specs.declared.trace.TableName.TheVariants as table
-use Rattle.air_kit.specs.declared.trace.Trace.{Trace}
 use Rattle.complete_trace.proofs.Quiet.{pairs_quiet, rows_quiet}
 
 fourth_alone : (a b c d e f : ℕ) → a ≡ 0 → b ≡ 0 → c ≡ 0 → e ≡ 0 → f ≡ 0 → a + (b + (c + (d + (e + (f + 0))))) ≡ d

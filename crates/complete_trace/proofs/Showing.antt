@@ -1,15 +1,11 @@
 -- A row that shows the machine's state before it in each column shows it as a whole.
-use Rattle.std.proofs.Common.{◌≡◌, ℕ, ◌<◌, ◌≤◌, List, [], ◌∷◌, length, take, slice_index, sym, ◌∙◌, arith, lit<}
-use Rattle.std.proofs.lemmas.List.{ext_get_or, get_or-take, length-take-le}
-use Rattle.vm_field.specs.Machine.{Core, State}
+use Rattle.complete_rows.proofs.Words
+use Words.{◌≡◌, ℕ, ◌<◌, ◌≤◌, List, [], ◌∷◌, length, take, slice_index, sym, ◌∙◌, arith, lit<, ext_get_or, get_or-take, length-take-le, Core, State, Op, f}
+use Words.{Decoder, Shows}
 use Rattle.vm_field.proofs.Elements.{word-again}
-use Rattle.vm_ops.specs.declared.op.Op.{Op}
-use Rattle.vm_table.specs.MainColumns.{f}
 use Rattle.air_kit.specs.StackValues.{cells, function_digest}
 use Rattle.facts_steps.specs.Filling.{ShowsState}
 use Rattle.facts_steps.proofs.Seeing.{cells_index, length_cells}
-use Rattle.complete_rows.specs.Decoder.{Decoder}
-use Rattle.complete_rows.specs.Shows.{Shows}
 
 digest_shown : (x digest : List ℕ) → length digest ≡ 4 → ((j : ℕ) → j < 4 → f x j ≡ slice_index digest j) → function_digest x ≡ digest
 unfolding function_digest

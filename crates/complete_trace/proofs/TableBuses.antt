@@ -1,13 +1,8 @@
 -- The buses of permutations, bitwise operations, memory and the kernel: a small table gives what the rows ask.
-use Rattle.std.proofs.Common.{◌≡◌, ℕ, ◌+◌, List, arith}
-use Rattle.buses.specs.Counts.{counted}
-use Rattle.buses.specs.declared.bus.Bus.TheVariants as bus
-use Rattle.buses.proofs.Counting.{counted-none}
-use Rattle.air_kit.specs.Acceptance.{asked_on, given_on}
-use Rattle.air_kit.specs.Places.{Claim}
+use Rattle.complete_rows.proofs.Words
+use Words.{◌≡◌, ℕ, ◌+◌, List, arith, counted, counted-none, asked_on, given_on, Claim, Requests, Trace}
+use Words.bus
 use Rattle.air_kit.specs.Requests.{answers_on}
-use Rattle.air_kit.specs.declared.requests.Requests.{Requests}
-use Rattle.air_kit.specs.declared.trace.Trace.{Trace}
 use Rattle.complete_requests.specs.Asked.{RowsAsk}
 use Rattle.complete_trace.proofs.Quiet.{chips_give, chips_quiet, pairs_quiet}
 

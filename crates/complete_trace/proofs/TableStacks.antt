@@ -1,19 +1,9 @@
 -- The rows of a run show all facts, and their entries are 0.
-use Rattle.std.proofs.Common.{◌≡◌, ◌⊎◌, inl, inr, ℕ, suc, ◌<◌, ◌≤◌, List, length, arith}
-use Rattle.std.proofs.lemmas.Bool.{cases_eq}
-use Rattle.vm_field.specs.Machine.{State}
-use Rattle.block_tree.specs.Execution as run
-use Rattle.block_tree.specs.Trees.{Tree}
-use Rattle.vm_ops.specs.declared.op.Op.{Op}
-use Rattle.vm_table.specs.MainColumns.{lv}
-use Rattle.facts_main.specs.Dynamic.{IsDynRow}
-use Rattle.facts_main.specs.Limbs.{IsLimbRow}
-use Rattle.vm_table.specs.Layout.{row_at}
-use Rattle.facts_main.specs.MainRows.{op_in}
-use Rattle.facts_main.specs.Stack.{IsStackRow}
+use Rattle.complete_rows.proofs.Words
+use Words.{◌≡◌, ◌⊎◌, inl, inr, ℕ, suc, ◌<◌, ◌≤◌, List, length, arith, cases_eq, State, Tree, Op, lv, IsDynRow, IsLimbRow, row_at, op_in, IsStackRow, IsWholeRun}
+use Words.{decoder_behind, filled, AreMoments}
+use Words.run
 use Rattle.facts_main.proofs.TableFacts.{rows_zero}
-use Rattle.complete_rows.specs.BlockRows.{IsWholeRun, decoder_behind, filled}
-use Rattle.complete_rows.specs.Moments.{AreMoments}
 use Rattle.complete_rows.proofs.MomentLemmas.{end_at, moment_at, unlinked}
 use Rattle.complete_rows.proofs.TableLemmas.{linked, shows_blocks}
 use Rattle.complete_trace.specs.StackRows.{RowsLookUp, RunHasZeros, RunShowsRows}

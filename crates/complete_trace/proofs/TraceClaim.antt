@@ -1,20 +1,16 @@
 -- What stands beside the rows of a run's trace is the claim of the run, so that the entries of all tables are 0.
-use Rattle.std.proofs.Common.{◌≡◌, ◌≢◌, ℕ, ◌<◌, List, [], ◌∷◌, length, map, slice_index_or, refl, sym, ap, ◌∙◌, subst}
-use Rattle.std.proofs.lemmas.List.{length-map}
-use Rattle.vm_field.specs.Machine.{State}
-use Rattle.block_tree.specs.Execution as run
-use Rattle.block_tree.specs.Trees.{Tree}
+use Rattle.complete_rows.proofs.Words
+use Words.{◌≡◌, ◌≢◌, ℕ, ◌<◌, List, [], ◌∷◌, length, map, slice_index_or, refl, sym, ap, ◌∙◌, subst, length-map, State, Tree, key_of, Trace, ClaimsRun}
+use Words.{IsWholeRun, keys_of}
+use Words.run
+use Words.table
 use Rattle.air_kit.specs.Acceptance.{AreZero}
-use Rattle.air_kit.specs.DeepCells.{key_of}
 use Rattle.air_kit.specs.Traces.{claim_of, rows_of, value_at}
 use Rattle.air_kit.specs.declared.trace.Public.{Public}
 use Rattle.air_kit.specs.declared.trace.TableName.{TableName}
-use Rattle.air_kit.specs.declared.trace.TableName.TheVariants as table
-use Rattle.air_kit.specs.declared.trace.Trace.{Trace}
 use Rattle.chip_columns.specs.LeftColumns.{key}
 use Rattle.facts_main.specs.MainRows.{MainIsZero}
 use Rattle.facts_main.proofs.ClaimFacts.{claim_low}
-use Rattle.complete_rows.specs.BlockRows.{ClaimsRun, IsWholeRun, keys_of}
 use Rattle.complete_rows.proofs.TableLemmas.{keys_asked}
 use Rattle.complete_trace.proofs.TableStacks.{has_zeros}
 use Rattle.complete_trace.specs.Acceptance.{IsStatementOf, IsTraceOf}

@@ -14,7 +14,7 @@ use Rattle.machine_cycles.specs.declared.event.Event.{Event}
 use Rattle.complete_rows.specs.Decoder.{Decoder, Open, address_of, advance, advance_by, at_start}
 use Rattle.complete_rows.specs.Groups.{Unread, batch_begun, group_after}
 use Rattle.complete_rows.specs.Turns.{respans, respans_by}
-use Rattle.complete_rows.proofs.BoundLemmas.{few_respans}
+use Rattle.complete_rows.proofs.BoundLemmas.{few_respans, next_few}
 use Rattle.fill_requests.proofs.LoopLemmas.{suffix}
 use Rattle.fill_decoder.specs.Bounds.{HasRoom, IsSmall, ShowsElements}
 
@@ -43,10 +43,6 @@ after_few false zero place positions count left low = record { left = omega (ari
 after_few false (suc number) place positions count left low = record { left = omega (arith, left); place = omega (arith, low) }
 
 -- ---- one event
-
-next_few : (b : Bool) (next most : ℕ) → next ≤ 1 + 8 * most → cond b (next + 8) next ≤ 1 + 8 * (most + 1)
-next_few true next most h = omega (arith, h)
-next_few false next most h = omega (arith, h)
 
 -- the parts of such bounds before an event of a kind
 record Before (k : Kind) (d : Decoder) (e : Event) (later : List Event) (count : ℕ) : Type 0 where

@@ -1,14 +1,12 @@
 -- The rows of events, one by one.
-use Rattle.std.proofs.Common.{All, ◌≡◌, ℕ, suc, ◌+◌, ◌^◌, ◌<◌, ◌≤◌, List, [], ◌∷◌, ◌++◌, length, get_or, drop, slice_get, slice_index, unwrap_or, sym, refl, ap, ◌∙◌, append_assoc, arith}
+use Rattle.std.proofs.Common.{◌≡◌, ℕ, ◌+◌, ◌^◌, ◌<◌, ◌≤◌, List, [], ◌∷◌, ◌++◌, length, get_or, drop, slice_get, slice_index, unwrap_or, sym, refl, ap, ◌∙◌, append_assoc, arith}
 use Rattle.std.proofs.lemmas.List.{drop_all}
-use Rattle.std.proofs.lemmas.List.Elements.{All-cons, All-drop, All-head, All-nil}
+use Rattle.std.proofs.lemmas.List.Elements.{All-head}
 use Rattle.machine_cycles.specs.declared.event.Event.{Event}
 use Rattle.machine_cycles.specs.declared.event.Visible.{Visible}
 use Rattle.complete_rows.specs.Decoder.{Decoder, advance, at_start, decoder_after}
 use Rattle.complete_rows.specs.Filling.{deep_before, fill, halted, row_of, rows_of_run, seen_behind}
 use Rattle.vm_ops.specs.Codes.{kind_of}
-use Rattle.vm_ops.specs.declared.kind.Kind.TheVariants as kinds
-use Rattle.vm_ops.specs.declared.kind.Kind.{Kind}
 use Rattle.complete_rows.specs.Numbers.{HasSmallNumbers}
 use Rattle.complete_rows.specs.Turns.{repeats, repeats_by}
 use Rattle.fill_main.specs.Turns.{turns_of}
@@ -97,42 +95,3 @@ none-behind events i past = (ap repeats (drop_all i events past), ap turns_of (d
 pub no-repeats : 0 ≡ slice_index (repeats []) 0
 unfolding repeats
 no-repeats = refl
-
--- ---- no loop is repeated more often than there are events
-
-abbrev AreFew : ℕ → List ℕ → Type 0
-AreFew n counts = All (λ count. count ≤ n) counts
-
-few-later : (n : ℕ) (counts : List ℕ) → AreFew n counts → AreFew (suc n) counts
-few-later n counts few = λ k d low. (let less = few k d low in omega (arith, less))
-
-first-few : (n : ℕ) (counts : List ℕ) → AreFew n counts → slice_index counts 0 ≤ n
-first-few n [] few = omega arith
-first-few n (count ∷ counts) few = All-head (λ c. c ≤ n) count counts few
-
-few-closed : (n : ℕ) (counts : List ℕ) → AreFew n counts → AreFew (suc n) (drop 1 counts)
-few-closed n counts few = All-drop (λ c. c ≤ suc n) 1 counts (few-later n counts few)
-
-few-by : (k : Kind) (n : ℕ) (counts : List ℕ) → AreFew n counts → AreFew (suc n) (repeats_by k counts)
-few-by kinds.Ordinary n counts few = few-later n counts few
-few-by kinds.Join n counts few = few-closed n counts few
-few-by kinds.Split n counts few = few-closed n counts few
-few-by kinds.Loop n counts few = few-closed n counts few
-few-by kinds.Span n counts few = few-closed n counts few
-few-by kinds.Call n counts few = few-closed n counts few
-few-by kinds.Syscall n counts few = few-closed n counts few
-few-by kinds.Dyn n counts few = few-closed n counts few
-few-by kinds.End n counts few = All-cons (λ c. c ≤ suc n) 0 counts (omega arith) (few-later n counts few)
-few-by kinds.Repeat n counts few =
-    let first = first-few n counts few in
-    All-cons (λ c. c ≤ suc n) (suc (slice_index counts 0)) (drop 1 counts) (omega (arith, first)) (few-closed n counts few)
-few-by kinds.Respan n counts few = few-later n counts few
-few-by kinds.Halt n counts few = few-later n counts few
-
-all-few : (events : List Event) → AreFew (length events) (repeats events)
-unfolding repeats
-all-few [] = All-nil (λ c. c ≤ 0)
-all-few (e ∷ later) = few-by (kind_of e.op) (length later) (repeats later) (all-few later)
-
-pub few-repeats : (events : List Event) → slice_index (repeats events) 0 ≤ length events
-few-repeats events = first-few (length events) (repeats events) (all-few events)

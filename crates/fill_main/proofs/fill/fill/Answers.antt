@@ -17,7 +17,8 @@ use Rattle.fill_decoder.specs.Bounds.{IsSmall}
 use Rattle.fill_decoder.specs.Views.{decoder_in}
 use Rattle.fill_decoder.proofs.BoundLemmas.{small_room, small_shows, small_start, small_step}
 use Rattle.fill_decoder.proofs.DecoderLemmas.{known}
-use Rattle.fill_main.proofs.FillLemmas.{decoder-end, decoder-step, deep-low, few-repeats, rows-end, rows-step, turn-first, turns-here, turns-left, no-repeats, whole}
+use Rattle.complete_rows.proofs.LineLemmas.{few_repeats}
+use Rattle.fill_main.proofs.FillLemmas.{decoder-end, decoder-step, deep-low, rows-end, rows-step, turn-first, turns-here, turns-left, no-repeats, whole}
 use Rattle.fill_main.proofs.fill.fill.Goals as goal
 
 pub new-requires : goal.new-requires
@@ -107,7 +108,7 @@ write_row-requires c =
     let here = invariant.turns ∙ turns-here events i e (omega arith) is in
     let turn : c.unwrap_or-turn.result ≡ slice_index (repeats later) 0
     = turn-first c.loop-i.turns _ _ c.unwrap_or-turn.result here (c.unwrap_or-turn.ensures ∙ ap (λ o. unwrap_or o 0) c.pop.ensures.item) in
-    let most = few-repeats later in
+    let most = few_repeats later in
     let few : length events ≤ most_cycles = c.requires.few in
     record {
       decoder = small_shows (decoder_in c.loop-i.decoder) i (drop i events) invariant.small;

@@ -4,7 +4,8 @@ use Rattle.vm_ops.specs.declared.kind.Kind.{Kind}
 use Rattle.vm_ops.specs.Codes.{kind_of}
 use Rattle.complete_rows.specs.Turns.{repeats, repeats_by}
 use Rattle.fill_main.specs.Turns.{turns_of}
-use Rattle.fill_main.proofs.FillLemmas.{few-repeats, none-behind, repeats-here, turns-here}
+use Rattle.complete_rows.proofs.LineLemmas.{few_repeats}
+use Rattle.fill_main.proofs.FillLemmas.{none-behind, repeats-here, turns-here}
 use Rattle.fill_main.proofs.turns.turns_of.Goals as goal
 
 pub loop-i-init : goal.loop-i-init
@@ -37,7 +38,7 @@ pub count-requires : goal.count-requires
 count-requires c =
     let events = c.args.events.now in
     let i = c.loop-i.i in
-    let most = few-repeats (drop i events) in
+    let most = few_repeats (drop i events) in
     let here : slice_index c.loop-i.counts 0 ≡ slice_index (repeats (drop i events)) 0
     = ap (λ (xs : List ℕ). slice_index xs 0) c.loop-i.invariant.counts in
     omega (arith, here, most, length-drop i events)
