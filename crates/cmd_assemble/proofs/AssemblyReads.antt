@@ -15,13 +15,7 @@ module _ (params source : List ℕ) (name : Option (List ℕ)) where
   abbrev Ends : Outcome → ShelfState → ShelfState → Type 0
   Ends o old new = EndsIn (Some (assemble_steps params source name)) o old new
 
-  pub ends_at_params : (o : Outcome) (old new : ShelfState) → EndsThere (params_steps params) o old new → Ends o old new
-  ends_at_params o old new ends = ends (λ constants. source_steps source (with_source constants))
-
   module _ (constants : List ℕ) (old first : ShelfState) (params_say : Loads (params_steps params) constants old first) where
-    pub ends_at_source : (o : Outcome) (new : ShelfState) → EndsThere (source_steps source) o first new → Ends o old new
-    ends_at_source o new ends = params_say (λ constants. source_steps source (with_source constants)) o new (ends (with_source constants))
-
     module _ (text : SourceFile) (second : ShelfState) (source_says : Loads (source_steps source) text first second) where
       goes_on : (o : Outcome) (new : ShelfState) → EndsIn (Some (with_source constants text)) o second new → Ends o old new
       goes_on o new ends =

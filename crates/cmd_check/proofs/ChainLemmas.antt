@@ -24,25 +24,12 @@ module _ (constants : List ℕ) (before : ℕ) (left : Option (List ℕ)) (link 
   abbrev with_table : (Judged → Steps) → Trace → Steps
   with_table next trace = statement_steps link.statement (claimed_steps constants before left next trace)
 
-  pub ends_at_table : (end : Outcome) (old new : ShelfState) → EndsThere (trace_steps link.table) end old new
-      → EndsThere (link_steps constants before left link) end old new
-  ends_at_table end old new ends next = ends (with_table next)
-
   module _ (trace : Trace) (old mid : ShelfState) (table_says : Loads (trace_steps link.table) trace old mid) where
-    pub ends_at_statement : (end : Outcome) (new : ShelfState) → EndsThere (statement_steps link.statement) end mid new
-        → EndsThere (link_steps constants before left link) end old new
-    ends_at_statement end new ends next = table_says (with_table next) end new (ends (claimed_steps constants before left next trace))
-
     module _ (claim : Stated) (new : ShelfState) (statement_says : Loads (statement_steps link.statement) claim mid new) where
       pub ends_judged : (end : Outcome) → EndsHere constants before left (record { claim = claim; trace = trace }) end
           → EndsThere (link_steps constants before left link) end old new
       ends_judged end ends next =
           table_says (with_table next) end new (statement_says (claimed_steps constants before left next trace) end new (ends new next))
-
-      pub goes_judged : GoesOn constants before left (record { claim = claim; trace = trace })
-          → Loads (link_steps constants before left link) (record { claim = claim; trace = trace }) old new
-      goes_judged goes next end last rest =
-          table_says (with_table next) end last (statement_says (claimed_steps constants before left next trace) end last (goes new next end last rest))
 
 -- the parameters and the list
 module _ (params list evidence : List ℕ) (constants : List ℕ) (old first : ShelfState) (params_say : Loads (params_steps params) constants old first) where
@@ -52,11 +39,6 @@ module _ (params list evidence : List ℕ) (constants : List ℕ) (old first : S
   abbrev with_constants : List ℕ → Steps
   with_constants constants = list_steps (chain_given params list evidence) (from constants)
 
-  pub ends_at_list : (end : Outcome) (new : ShelfState) → ((next : List ℕ → Steps) → EndsIn (Some (reading list most_list_bytes next)) end first new)
-      → EndsIn (Some (chain_steps params list evidence)) end old new
-  ends_at_list end new ends =
-      params_say with_constants end new (ends (λ bytes. with_lines list (from constants) (links_of (chain_given params list evidence) bytes)))
-
   module _ (bytes : List ℕ) (second : ShelfState)
       (list_says : (next : List ℕ → Steps) → Continues (reading list most_list_bytes next) (next bytes) first second) where
     goes_on : (end : Outcome) (new : ShelfState)
@@ -65,12 +47,6 @@ module _ (params list evidence : List ℕ) (constants : List ℕ) (old first : S
     goes_on end new ends =
         params_say with_constants end new
         (list_says (λ bytes. with_lines list (from constants) (links_of (chain_given params list evidence) bytes)) end new ends)
-
-    pub ends_in_list : (end : Outcome)
-        → ((s : ShelfState) (next : List (List (List ℕ)) → Steps)
-        → EndsIn (Some (with_lines list next (links_of (chain_given params list evidence) bytes))) end s s)
-        → EndsIn (Some (chain_steps params list evidence)) end old second
-    ends_in_list end ends = goes_on end second (ends second (from constants))
 
     pub ends_behind_list : (lines : List (List (List ℕ))) → links_of (chain_given params list evidence) bytes ≡ Ok lines → (end : Outcome)
         → (new : ShelfState) → EndsIn (Some (from constants lines)) end second new → EndsIn (Some (chain_steps params list evidence)) end old new
@@ -212,10 +188,6 @@ module _ (constants evidence : List ℕ) (judged : List Judged) (left : Option (
   from_link end new ends =
       subst (λ ls. EndsIn (Some (chain_from constants evidence judged left ls)) end old new) (sym first)
       (subst (λ k. EndsIn (Some (link_steps constants k left link later)) end old new) (sym count) ends)
-
-  pub ends_at_link : (end : Outcome) (new : ShelfState) → EndsThere (link_steps constants before left link) end old new
-      → EndsIn (Some (chain_from constants evidence judged left all)) end old new
-  ends_at_link end new ends = from_link end new (ends later)
 
   pub ends_behind_link : (outputs text longer : List ℕ) (mid : ShelfState) → IsChainText constants judged text
       → LinkGoesOn constants before left link outputs text longer old mid → (end : Outcome) (new : ShelfState)

@@ -18,7 +18,7 @@ use Rattle.cmd_kit.specs.declared.outcome.Outcome.TheVariants as outcome
 use Rattle.cmd_kit.specs.declared.status.Status.TheVariants as status
 use Rattle.cmd_kit.specs.CheckEnds.{IsWhy, refusal}
 use Rattle.cmd_kit.specs.CheckSourceEnds as ends
-use Rattle.cmd_kit.specs.CheckSourceEnds.{IsBuild, IsSourceEvidenceFor, accepted_source_line, other_program_line}
+use Rattle.cmd_kit.specs.CheckSourceEnds.{IsSourceEvidenceFor, accepted_source_line, other_program_line}
 use Rattle.cmd_kit.specs.SourceEnds.{AssemblesFiles, name_of_place, source_line}
 use Rattle.cmd_kit.specs.Steps.{built, unbuilt, sourced}
 

@@ -1,9 +1,10 @@
 -- The words of `run` and of `make` give the outputs names that no other file of the command has.
-use Rattle.cmd_kit.proofs.Words.{if◌then◌else◌, ◌≡◌, ◌≢◌, ℕ, Bool, true, false, not, ◌||◌, codes, List, [], ◌∷◌, Option, Some, None, refl, sym, subst}
-use Rattle.cmd_kit.proofs.Words.{list_any, bytes_eq, false≢true, and_parts, bytes_eq-Decides, most_turns, MadeNames, Outputs, hash, assemble, check}
+use Rattle.std.proofs.lemmas.Bool.{both_ways, not-true, not_from_false, or_parts}
+use Rattle.cmd_kit.proofs.Words.{if◌then◌else◌, ◌≡◌, ◌≢◌, ℕ, Bool, true, false, codes, List, [], ◌∷◌, Option, Some, None, refl, sym, subst}
+use Rattle.cmd_kit.proofs.Words.{list_any, bytes_eq, and_parts, bytes_eq-Decides, most_turns, MadeNames, Outputs, hash, assemble, check}
 use Rattle.cmd_kit.proofs.Words.{check_source, make, chain, runs, member, asked}
-use Rattle.cmd_words.specs.Words.{is_form, name_at, number_at, optional_name}
-use Rattle.cmd_kit.specs.Asked.{Asked, nothing, run, are_apart, are_made_apart, is_apart, given_name, check_against, check_words, hash_words, assemble_words, run_words, make_words, run_of_names, outputs_in, limit_in, pieces_in, check_of_names, hash_of_names, assemble_of_names, make_of_names, made_names_in, chain_of_names, chain_words, runs_of_names, runs_words, depth_in, member_of_names, member_words}
+use Rattle.cmd_words.specs.Words.{name_at, number_at, optional_name}
+use Rattle.cmd_kit.specs.Asked.{Asked, nothing, run, are_apart, are_made_apart, is_apart, given_name, check_against, run_of_names, outputs_in, limit_in, pieces_in, check_of_names, hash_of_names, assemble_of_names, make_of_names, made_names_in, chain_of_names, runs_of_names, depth_in, member_of_names}
 
 -- what is asked has outputs apart
 abbrev AreOutputsApart : Asked → Type 0
@@ -24,14 +25,11 @@ if_either false x y then_it otherwise = otherwise
 
 of_hash : (params numbers : Option (List ℕ)) → AreOutputsApart (hash_of_names params numbers)
 of_hash (Some params) (Some numbers) = tt
-of_hash (Some params) None = tt
-of_hash None numbers = tt
+of_hash params numbers = tt
 
 of_assemble : (params source : Option (List ℕ)) (kernel : Option (Option (List ℕ))) → AreOutputsApart (assemble_of_names params source kernel)
 of_assemble (Some params) (Some source) (Some kernel) = tt
-of_assemble (Some params) (Some source) None = tt
-of_assemble (Some params) None kernel = tt
-of_assemble None source kernel = tt
+of_assemble params source kernel = tt
 
 of_check_against : (params table statement evidence : List ℕ) (source kernel : Option (List ℕ))
     → AreOutputsApart (check_against params table statement evidence source kernel)
@@ -46,61 +44,35 @@ of_check : (params table statement : Option (List ℕ)) (evidence : Option (Opti
     (source kernel : Option (Option (List ℕ))) → AreOutputsApart (check_of_names params table statement evidence pieces source kernel)
 of_check (Some params) (Some table) (Some statement) (Some (Some evidence)) (Some pieces) (Some source) (Some kernel) =
     of_check_against params table statement evidence source kernel
-of_check (Some params) (Some table) (Some statement) (Some (Some evidence)) (Some pieces) (Some source) None = tt
-of_check (Some params) (Some table) (Some statement) (Some (Some evidence)) (Some pieces) None kernel = tt
-of_check (Some params) (Some table) (Some statement) (Some (Some evidence)) None source kernel = tt
-of_check (Some params) (Some table) (Some statement) (Some None) pieces source kernel = tt
-of_check (Some params) (Some table) (Some statement) None pieces source kernel = tt
-of_check (Some params) (Some table) None evidence pieces source kernel = tt
-of_check (Some params) None statement evidence pieces source kernel = tt
-of_check None table statement evidence pieces source kernel = tt
+of_check params table statement evidence pieces source kernel = tt
 
 of_run : (params source inputs : Option (List ℕ)) (outputs : Option Outputs) (kernel : Option (Option (List ℕ))) (limit : Option ℕ)
     → AreOutputsApart (run_of_names params source inputs outputs kernel limit)
 of_run (Some params) (Some source) (Some inputs) (Some outputs) (Some kernel) (Some limit) =
     if_either (are_apart outputs (params ∷ source ∷ inputs ∷ given_name kernel)) (run params source inputs outputs kernel limit)
     nothing (λ apart. apart) tt
-of_run (Some params) (Some source) (Some inputs) (Some outputs) (Some kernel) None = tt
-of_run (Some params) (Some source) (Some inputs) (Some outputs) None limit = tt
-of_run (Some params) (Some source) (Some inputs) None kernel limit = tt
-of_run (Some params) (Some source) None outputs kernel limit = tt
-of_run (Some params) None inputs outputs kernel limit = tt
-of_run None source inputs outputs kernel limit = tt
+of_run params source inputs outputs kernel limit = tt
 
 of_make : (params : Option (List ℕ)) (turns : Option ℕ) (names : Option MadeNames) → AreOutputsApart (make_of_names params turns names)
 of_make (Some params) (Some turns) (Some names) =
     if_either (are_made_apart names params) (make params turns names) nothing (λ apart. apart) tt
-of_make (Some params) (Some turns) None = tt
-of_make (Some params) None names = tt
-of_make None turns names = tt
+of_make params turns names = tt
 
 of_chain : (params list : Option (List ℕ)) (evidence : Option (Option (List ℕ))) (pieces : Option (Option ℕ))
     → AreOutputsApart (chain_of_names params list evidence pieces)
 of_chain (Some params) (Some list) (Some (Some evidence)) (Some pieces) =
     if_either (is_apart evidence (params ∷ list ∷ [])) (chain params list evidence) nothing (λ apart. apart) tt
-of_chain (Some params) (Some list) (Some (Some evidence)) None = tt
-of_chain (Some params) (Some list) (Some None) pieces = tt
-of_chain (Some params) (Some list) None pieces = tt
-of_chain (Some params) None evidence pieces = tt
-of_chain None list evidence pieces = tt
+of_chain params list evidence pieces = tt
 
 of_runs : (params list : Option (List ℕ)) → AreOutputsApart (runs_of_names params list)
 of_runs (Some params) (Some list) = tt
-of_runs (Some params) None = tt
-of_runs None list = tt
+of_runs params list = tt
 
 of_member : (params table statement : Option (List ℕ)) (depth : Option (Option ℕ)) (evidence : Option (Option (List ℕ)))
     (pieces : Option (Option ℕ)) → AreOutputsApart (member_of_names params table statement depth evidence pieces)
 of_member (Some params) (Some table) (Some statement) (Some (Some depth)) (Some (Some evidence)) (Some pieces) =
     if_either (is_apart evidence (params ∷ table ∷ statement ∷ [])) (member params table statement evidence depth) nothing (λ apart. apart) tt
-of_member (Some params) (Some table) (Some statement) (Some (Some depth)) (Some (Some evidence)) None = tt
-of_member (Some params) (Some table) (Some statement) (Some (Some depth)) (Some None) pieces = tt
-of_member (Some params) (Some table) (Some statement) (Some (Some depth)) None pieces = tt
-of_member (Some params) (Some table) (Some statement) (Some None) evidence pieces = tt
-of_member (Some params) (Some table) (Some statement) None evidence pieces = tt
-of_member (Some params) (Some table) None depth evidence pieces = tt
-of_member (Some params) None statement depth evidence pieces = tt
-of_member None table statement depth evidence pieces = tt
+of_member params table statement depth evidence pieces = tt
 
 behind_form : (b : Bool) (x : Asked) → AreOutputsApart x → AreOutputsApart (if b then x else nothing)
 behind_form b x h = if_either b x nothing (λ is. h) tt
@@ -109,78 +81,36 @@ all_apart : (words : List (List ℕ)) → AreOutputsApart (asked words)
 unfolding asked
 all_apart [] = tt
 all_apart (command ∷ words) =
-    if_either (bytes_eq command (codes "check")) (check_words words) _ (λ is. of_check_words)
-    (if_either (bytes_eq command (codes "hash")) (hash_words words) _ (λ is. of_hash_words)
-    (if_either (bytes_eq command (codes "assemble")) (assemble_words words) _ (λ is. of_assemble_words)
-    (if_either (bytes_eq command (codes "run")) (run_words words) _ (λ is. of_run_words)
-    (if_either (bytes_eq command (codes "make")) (make_words words) _ (λ is. of_make_words)
-    (if_either (bytes_eq command (codes "chain")) (chain_words words) _ (λ is. of_chain_words)
-    (if_either (bytes_eq command (codes "runs")) (runs_words words) _ (λ is. of_runs_words)
-    (behind_form (bytes_eq command (codes "member")) (member_words words) of_member_words)))))))
+    if_either (bytes_eq command (codes "check")) _ _
+    (λ is. behind_form _ _ (of_check (name_at 0 words) (name_at 1 words) (name_at 2 words) evidence (pieces_in words)
+    (optional_name (codes "--source") words) kernel))
+    (if_either (bytes_eq command (codes "hash")) _ _ (λ is. behind_form _ _ (of_hash (name_at 0 words) (name_at 1 words)))
+    (if_either (bytes_eq command (codes "assemble")) _ _ (λ is. behind_form _ _ (of_assemble (name_at 0 words) (name_at 1 words) kernel))
+    (if_either (bytes_eq command (codes "run")) _ _
+    (λ is. behind_form _ _ (of_run (name_at 0 words) (name_at 1 words) (name_at 2 words) (outputs_in words) kernel (limit_in words)))
+    (if_either (bytes_eq command (codes "make")) _ _
+    (λ is. behind_form _ _ (of_make (name_at 0 words) (number_at 1 most_turns 1 words) (made_names_in words)))
+    (if_either (bytes_eq command (codes "chain")) _ _
+    (λ is. behind_form _ _ (of_chain (name_at 0 words) (name_at 1 words) evidence (pieces_in words)))
+    (if_either (bytes_eq command (codes "runs")) _ _ (λ is. behind_form _ _ (of_runs (name_at 0 words) (name_at 1 words)))
+    (behind_form (bytes_eq command (codes "member")) _
+    (behind_form _ _ (of_member (name_at 0 words) (name_at 1 words) (name_at 2 words) (depth_in words) evidence (pieces_in words))))))))))
   where
     kernel : Option (Option (List ℕ))
     kernel = optional_name (codes "--kernel") words
 
-    of_check_words : AreOutputsApart (check_words words)
-    of_check_words =
-        behind_form (is_form 3 (codes "--evidence" ∷ codes "--pieces" ∷ codes "--source" ∷ codes "--kernel" ∷ []) words)
-        (check_of_names (name_at 0 words) (name_at 1 words) (name_at 2 words) (optional_name (codes "--evidence") words) (pieces_in words)
-        (optional_name (codes "--source") words) kernel)
-        (of_check (name_at 0 words) (name_at 1 words) (name_at 2 words) (optional_name (codes "--evidence") words) (pieces_in words)
-        (optional_name (codes "--source") words) kernel)
-
-    of_hash_words : AreOutputsApart (hash_words words)
-    of_hash_words = behind_form (is_form 2 [] words) (hash_of_names (name_at 0 words) (name_at 1 words)) (of_hash (name_at 0 words) (name_at 1 words))
-
-    of_assemble_words : AreOutputsApart (assemble_words words)
-    of_assemble_words =
-        behind_form (is_form 2 (codes "--kernel" ∷ []) words) (assemble_of_names (name_at 0 words) (name_at 1 words) kernel)
-        (of_assemble (name_at 0 words) (name_at 1 words) kernel)
-
-    of_run_words : AreOutputsApart (run_words words)
-    of_run_words =
-        behind_form (is_form 3 (codes "--out" ∷ codes "--statement" ∷ codes "--kernel" ∷ codes "--limit" ∷ []) words)
-        (run_of_names (name_at 0 words) (name_at 1 words) (name_at 2 words) (outputs_in words) kernel (limit_in words))
-        (of_run (name_at 0 words) (name_at 1 words) (name_at 2 words) (outputs_in words) kernel (limit_in words))
-
-    of_make_words : AreOutputsApart (make_words words)
-    of_make_words =
-        behind_form (is_form 2 (codes "--source" ∷ codes "--inputs" ∷ []) words)
-        (make_of_names (name_at 0 words) (number_at 1 most_turns 1 words) (made_names_in words))
-        (of_make (name_at 0 words) (number_at 1 most_turns 1 words) (made_names_in words))
-
-    of_chain_words : AreOutputsApart (chain_words words)
-    of_chain_words =
-        behind_form (is_form 2 (codes "--evidence" ∷ codes "--pieces" ∷ []) words)
-        (chain_of_names (name_at 0 words) (name_at 1 words) (optional_name (codes "--evidence") words) (pieces_in words))
-        (of_chain (name_at 0 words) (name_at 1 words) (optional_name (codes "--evidence") words) (pieces_in words))
-
-    of_runs_words : AreOutputsApart (runs_words words)
-    of_runs_words = behind_form (is_form 2 [] words) (runs_of_names (name_at 0 words) (name_at 1 words)) (of_runs (name_at 0 words) (name_at 1 words))
-
-    of_member_words : AreOutputsApart (member_words words)
-    of_member_words =
-        behind_form (is_form 3 (codes "--depth" ∷ codes "--evidence" ∷ codes "--pieces" ∷ []) words)
-        (member_of_names (name_at 0 words) (name_at 1 words) (name_at 2 words) (depth_in words) (optional_name (codes "--evidence") words)
-        (pieces_in words))
-        (of_member (name_at 0 words) (name_at 1 words) (name_at 2 words) (depth_in words) (optional_name (codes "--evidence") words)
-        (pieces_in words))
+    evidence : Option (Option (List ℕ))
+    evidence = optional_name (codes "--evidence") words
 
 -- a name that is none of these is not the first of them, nor one behind it
 not_first : (output name : List ℕ) (names : List (List ℕ)) → is_apart output (name ∷ names) ≡ true → name ≢ output
 not_first output name names apart same =
-    differ (bytes_eq output name) (list_any (bytes_eq output) names) ((bytes_eq-Decides output name).1 (sym same)) apart
-  where
-    differ : (b rest : Bool) → b ≡ true → not (b || rest) ≡ true → ⊥
-    differ true rest is none = false≢true none
-    differ false rest is none = false≢true is
+    let none = or_parts (bytes_eq output name) (list_any (bytes_eq output) names) (not-true _ apart) in
+    both_ways _ none.0 ((bytes_eq-Decides output name).1 (sym same))
 
 not_behind : (output name : List ℕ) (names : List (List ℕ)) → is_apart output (name ∷ names) ≡ true → is_apart output names ≡ true
-not_behind output name names apart = less (bytes_eq output name) (list_any (bytes_eq output) names) apart
-  where
-    less : (b rest : Bool) → not (b || rest) ≡ true → not rest ≡ true
-    less true rest none = absurd (false≢true none)
-    less false rest none = none
+not_behind output name names apart =
+    not_from_false _ (or_parts (bytes_eq output name) (list_any (bytes_eq output) names) (not-true _ apart)).1
 
 pub record AreApart (params : List ℕ) (outputs : Outputs) : Type 0 where
   pub params_table : params ≢ outputs.table

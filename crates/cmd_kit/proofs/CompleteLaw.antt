@@ -1,9 +1,8 @@
 -- What `run` wrote is good for every `check` of it, which is so answered `Ok`.
 use Rattle.cmd_kit.proofs.Words.{◌≡◌, ◌⊎◌, ℕ, List, Option, Some, sym, subst, inl, inr, ◌∙◌, get, insert, Files, ShelfState, SinkState, get_beside, get_put}
-use Rattle.cmd_kit.proofs.Words.{Status, StatusKind, kind_of, planned, no_command, failed_read, failed_write, failed_print, Outputs, asked, IsGood}
+use Rattle.cmd_kit.proofs.Words.{Status, StatusKind, kind_of, planned, no_command, Outputs, asked, IsGood}
 use Rattle.cmd_kit.proofs.Words.{IsGoodCheck, IsFault}
 use Rattle.cmd_kit.specs.declared.status.Status.TheVariants as status
-use Rattle.cmd_kit.specs.Statuses.{no_memory}
 use Rattle.cmd_kit.specs.Laws.{WrittenRunIsAccepted}
 use Rattle.cmd_kit.specs.RunLaws.{RunStands, RunLeavesGoodFiles}
 use Rattle.cmd_kit.proofs.ApartNames.{AreApart, run_apart_names}
@@ -55,10 +54,7 @@ pub no_fault : (s : Status) (kind : StatusKind) → kind ≡ planned → (s ≡ 
 no_fault s kind is (inl ok) = ok
 no_fault s planned is (inr fault) = absurd fault
 no_fault s no_command is (inr fault) = absurd fault
-no_fault s failed_read is (inr fault) = cc
-no_fault s failed_write is (inr fault) = cc
-no_fault s failed_print is (inr fault) = cc
-no_fault s no_memory is (inr fault) = cc
+no_fault s kind is (inr fault) = cc
 
 pub written_run_is_accepted : WrittenRunIsAccepted
 written_run_is_accepted ran_by checked_by s old mid new a b c d m params source inputs evidence outputs kernel limit is ran_words

@@ -1,11 +1,11 @@
 -- The laws of `specs/Laws`.
 use Rattle.cmd_kit.proofs.Words.{◌≡◌, ◌⊎◌, ℕ, List, Option, Some, None, refl, sym, ap, subst, inl, inr, ◌∙◌, Contains, take, insert, Files, ShelfState}
 use Rattle.cmd_kit.proofs.Words.{with_file, SinkState, get_beside, Status, Answer, StatusKind, planned, no_command, failed_read, failed_write, failed_print}
-use Rattle.cmd_kit.proofs.Words.{kind_of, hash, assemble, check, check_source, make, chain, runs, member, asked, Steps, reading, writing, asking, ending}
+use Rattle.cmd_kit.proofs.Words.{kind_of, asked, Steps, reading, writing, asking, ending}
 use Rattle.cmd_kit.proofs.Words.{steps_of, Passes, past_read, past_write, past_finding, ComesWhere, Works, GivesUp, Prints, ServesAs}
 use Rattle.cmd_kit.specs.declared.status.Status.TheVariants as status
 use Rattle.cmd_kit.specs.Statuses.{no_memory}
-use Rattle.cmd_kit.specs.Asked.{Asked, nothing, run}
+use Rattle.cmd_kit.specs.Asked.{Asked, nothing}
 use Rattle.cmd_kit.specs.Serving.{Holds, none_yet, IsWriting, FrontWritten}
 use Rattle.cmd_kit.specs.Laws.{WritesOnly, StayBeside, OtherFilesStay, UsageMeansNothing, NothingGivesUsage}
 
@@ -76,32 +76,15 @@ module _ (outputs : List (List ℕ)) (steps : Steps) (m : Files) (only : WritesO
   answers_stay : (kind : StatusKind) (s : Status) (before now : SinkState) → ServesAs kind (Some steps) s old new before now → Stayed outputs m new.files
   answers_stay failed_print s before now h = works_stay (kind_of h.answer.status) h.answer h.works
   answers_stay no_memory s before now h = gives_up_stays h.gives_up
-  answers_stay planned s before now h = works_stay (kind_of s) _ h.works
-  answers_stay no_command s before now h = works_stay (kind_of s) _ h.works
-  answers_stay failed_read s before now h = works_stay (kind_of s) _ h.works
-  answers_stay failed_write s before now h = works_stay (kind_of s) _ h.works
+  answers_stay kind s before now h = works_stay (kind_of s) _ h.works
 
 pub other_files_stay : OtherFilesStay
 other_files_stay words s old new before now steps outputs m serves command only is =
     answers_stay outputs steps m only old new is (kind_of s) s before now (subst (λ c. ServesAs (kind_of s) c s old new before now) command serves)
 
-some_steps : (a b : Steps) → Some a ≡ Some b → a ≡ b
-some_steps a b same = cc
-
-are_steps : (steps : Steps) → Some steps ≡ None → ⊥
-are_steps steps none = cc
-
 no_steps : (command : Asked) → steps_of command ≡ None → command ≡ nothing
 no_steps nothing none = refl
-no_steps (hash params numbers) none = absurd (are_steps _ none)
-no_steps (assemble params source kernel) none = absurd (are_steps _ none)
-no_steps (run params source inputs outputs kernel limit) none = absurd (are_steps _ none)
-no_steps (check params table statement evidence) none = absurd (are_steps _ none)
-no_steps (check_source params table statement evidence source kernel) none = absurd (are_steps _ none)
-no_steps (make params turns names) none = absurd (are_steps _ none)
-no_steps (chain params list evidence) none = absurd (are_steps _ none)
-no_steps (runs params list) none = absurd (are_steps _ none)
-no_steps (member params table statement evidence depth) none = absurd (are_steps _ none)
+no_steps command none = absurd (cc)
 
 pub usage_means_nothing : UsageMeansNothing
 usage_means_nothing words old new before now serves = no_steps (asked words) (go (steps_of (asked words)) serves)

@@ -10,7 +10,6 @@ pub mod Courses
 pub mod EvidenceLaw
 pub mod FullClaims
 pub mod Held
-pub mod KernelReads
 pub mod LawLemmas
 pub mod LentFiles
 pub mod LineLemmas

@@ -1,5 +1,6 @@
 -- What `runs` wrote is a good chain: each statement follows the one before, and each trace is accepted for it.
-use Rattle.cmd_kit.proofs.Words.{◌≡◌, ◌≢◌, ℕ, suc, ◌+◌, ◌-◌, ◌≤◌, Bool, true, false, List, [], ◌∷◌, ◌++◌, length, length-append, map, arith, append-nil}
+use Rattle.std.proofs.lemmas.Bool.{false_from_ne_true}
+use Rattle.cmd_kit.proofs.Words.{◌≡◌, ◌≢◌, ℕ, suc, ◌+◌, ◌-◌, ◌≤◌, false, List, [], ◌∷◌, ◌++◌, length, length-append, map, arith, append-nil}
 use Rattle.cmd_kit.proofs.Words.{Option, Some, None, Ok, refl, sym, ap, subst, ◌∙◌, get, insert, AllByRecursion, flat_map, join_with_byte, list_all, list_any}
 use Rattle.cmd_kit.proofs.Words.{IfSome, bytes_eq, and_parts, length-map, bytes_eq-Decides, is_file_name, least_depth, start, Input, Output, first_stack}
 use Rattle.cmd_kit.proofs.Words.{IsLine, IsList, line_text, list_text, reads-its-text, Stated, statement_of, Files, ShelfState, SinkState, get_beside}
@@ -80,11 +81,7 @@ module _ (evidence : List ℕ) where
   input_lines lines = flat_map (with_roles (roles_for (Some evidence))) lines
 
   same_name : (a b : List ℕ) → a ≢ b → bytes_eq a b ≡ false
-  same_name a b other = by (bytes_eq a b) refl
-    where
-      by : (t : Bool) → bytes_eq a b ≡ t → t ≡ false
-      by true is = absurd (other ((bytes_eq-Decides a b).0 is))
-      by false is = refl
+  same_name a b other = false_from_ne_true (bytes_eq a b) (λ is. other ((bytes_eq-Decides a b).0 is))
 
   abbrev written : List (List (List ℕ)) → List (List (List ℕ))
   written lines = map (λ names. checked_names (run_link names)) lines
@@ -124,11 +121,7 @@ module _ (evidence : List ℕ) where
       let a = and_parts (is_file_name s) (list_all is_file_name (i ∷ t ∷ u ∷ [])) each.0.names_of_files in
       let b = and_parts (is_file_name i) (list_all is_file_name (t ∷ u ∷ [])) a.1 in
       (record { many = refl; names_of_files = b.1 }, two_of_four lines each.1)
-  two_of_four ([] ∷ lines) each = absurd (omega (arith, each.0.many))
-  two_of_four ((s ∷ []) ∷ lines) each = absurd (omega (arith, each.0.many))
-  two_of_four ((s ∷ i ∷ []) ∷ lines) each = absurd (omega (arith, each.0.many))
-  two_of_four ((s ∷ i ∷ t ∷ []) ∷ lines) each = absurd (omega (arith, each.0.many))
-  two_of_four ((s ∷ i ∷ t ∷ u ∷ v ∷ names) ∷ lines) each = absurd (omega (arith, each.0.many))
+  two_of_four (names ∷ lines) each = absurd (omega (arith, each.0.many))
 
   some_written : (lines : List (List (List ℕ))) → lines ≢ [] → written lines ≢ []
   some_written [] some = λ e. some refl
@@ -157,11 +150,7 @@ module _ (evidence : List ℕ) where
       joined_four s i t u =
           length-append s (32 ∷ (i ++ (32 ∷ (t ++ (32 ∷ u)))))
           ∙ ap (λ k. length s + suc k) (length-append i (32 ∷ (t ++ (32 ∷ u))) ∙ ap (λ k. length i + suc k) (length-append t (32 ∷ u)))
-  shorter ([] ∷ lines) each = absurd (omega (arith, each.0.many))
-  shorter ((s ∷ []) ∷ lines) each = absurd (omega (arith, each.0.many))
-  shorter ((s ∷ i ∷ []) ∷ lines) each = absurd (omega (arith, each.0.many))
-  shorter ((s ∷ i ∷ t ∷ []) ∷ lines) each = absurd (omega (arith, each.0.many))
-  shorter ((s ∷ i ∷ t ∷ u ∷ v ∷ names) ∷ lines) each = absurd (omega (arith, each.0.many))
+  shorter (names ∷ lines) each = absurd (omega (arith, each.0.many))
 
   same_links : (lines : List (List (List ℕ))) → map chained (map run_link lines) ≡ map chain_link (written lines)
   same_links [] = refl

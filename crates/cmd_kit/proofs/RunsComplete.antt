@@ -1,16 +1,13 @@
 -- Runs over good files, walked link by link to their end.
 use Rattle.cmd_kit.proofs.Words.{◌≡◌, ℕ, ◌+◌, true, false, nat_lt, if◌then◌else◌, List, [], ◌∷◌, length, map, Option, Some, None, refl, sym, ap, subst, ◌∙◌}
-use Rattle.cmd_kit.proofs.Words.{arith, get, insert, AllByRecursion, nat_tests, most_cycles, most_inputs, State, Given, Count, Files, get_beside, Answer}
-use Rattle.cmd_kit.proofs.Words.{BeginsWith, IsGoodRuns, LinkRuns, LinksRun, MayGoOn, broken, list_steps, with_lines, bad_inputs, IsCourse, AreLinksApart}
-use Rattle.cmd_kit.proofs.Words.{IsBeside, RunLink, given_steps, has_no_cells, is_none_left, left_steps, link_course_steps, link_running_steps, run_link}
-use Rattle.cmd_kit.proofs.Words.{run_link_steps, runs_from, runs_given, runs_steps, ComesWhere, with_inputs, with_params, SourceFile, course, Course, Steps}
+use Rattle.cmd_kit.proofs.Words.{arith, get, insert, AllByRecursion, nat_tests, most_inputs, State, Given, Count, Files, get_beside, Answer}
+use Rattle.cmd_kit.proofs.Words.{BeginsWith, IsGoodRuns, LinkRuns, LinksRun, MayGoOn, broken, bad_inputs, AreLinksApart}
+use Rattle.cmd_kit.proofs.Words.{IsBeside, RunLink, given_steps, has_no_cells, is_none_left, left_steps, link_running_steps, run_link}
+use Rattle.cmd_kit.proofs.Words.{run_link_steps, runs_from, runs_given, runs_steps, SourceFile, Steps}
 use Rattle.cmd_kit.proofs.Words.{ending}
-use Rattle.run_chain.specs.Names as names
 use Rattle.cmd_kit.specs.declared.status.Status.TheVariants as status
-use Rattle.cmd_kit.proofs.Courses.{runs_out}
 use Rattle.cmd_kit.proofs.RunsNames.{lines_apart}
-use Rattle.cmd_kit.proofs.Walks as walks
-use Rattle.cmd_kit.proofs.Walks.{ended, read_on, was_found, was_written}
+use Rattle.cmd_kit.proofs.Walks.{Went, course_good, ended, inputs_good, list_good, params_good, read_on, was_written}
 
 -- what a link reads stands in n as it does in m
 pub record StandsAs (m n : Files) (link : RunLink) : Type 0 where
@@ -36,7 +33,7 @@ still_stand m n name bytes (link ∷ links) apart stand = (
 -- steps that ended with an answer
 module _ (a : Answer) (new : Option Files) where
   abbrev Goes : Steps → Files → Type 0
-  Goes steps n = ComesWhere steps (walks.Done a new) (Some n)
+  Goes steps n = Went a new steps n
 
   -- what a later link begins with
   begun : (name : List ℕ) (left : Option (List ℕ)) (given begin : Given) (next : Given → Steps) (n : Files) → BeginsWith left given begin
@@ -61,42 +58,28 @@ module _ (a : Answer) (new : Option Files) where
     statement : List ℕ
     went : Goes (next last.core.stack) (insert (insert n link.outputs.table table) link.outputs.statement statement)
 
-  module _ (m n : Files) (constants : List ℕ) (before : ℕ) (left : Option (List ℕ)) (link : RunLink) (last : State)
-      (next : List ℕ → Steps) (run : LinkRuns m constants left link last) where
-    abbrev source : SourceFile
-    source = record { name = link.source; text = run.text }
-
-    course_goes : (c : Course) → IsCourse constants source None run.begin most_cycles c
-        → Goes (link_course_steps constants before link.outputs next run.begin c) n → Behind link next last n
-    course_goes c found goes =
-        let r = runs_out constants source None run.begin most_cycles run.program last run.log c run.assembled run.done found in
-        let steps : Course → Steps = link_course_steps constants before link.outputs next run.begin in
-        let table = was_written a new link.outputs.table _ _ n (subst (λ x. Goes (steps x) n) r.is goes) in
-        let statement = was_written a new link.outputs.statement _ _ (insert n link.outputs.table table.0) table.2 in
-        record {
-          table = table.0;
-          statement = statement.0;
-          went = subst (λ (s : State). Goes (next s.core.stack) (insert (insert n link.outputs.table table.0) link.outputs.statement statement.0)) r.same
-              statement.2;
-        }
-
-    link_goes : StandsAs m n link → Goes (run_link_steps constants before left link next) n → Behind link next last n
-    link_goes stand goes =
-        let i = run.inputs_say in
-        let running : Given → Steps = link_running_steps constants before link.outputs next source in
-        let first = read_on a new link.source _ _ n run.text (stand.source ∙ run.source_stands.stands) run.source_stands.short goes in
-        let second = read_on a new link.inputs _ _ n i.bytes (stand.inputs ∙ i.stands) i.short first in
-        let third = subst (λ r. Goes (with_inputs link.inputs (given_steps link.inputs left running) r) n) i.says second in
-        let fourth = begun link.inputs left run.given run.begin running n run.begins third in
-        let found =
-        was_found a new (course constants source None run.begin most_cycles)
-        (link_course_steps constants before link.outputs next run.begin) n fourth in
-        course_goes found.0 found.1 found.2
+  link_goes : (m n : Files) (constants : List ℕ) (before : ℕ) (left : Option (List ℕ)) (link : RunLink) (last : State) (next : List ℕ → Steps)
+      → LinkRuns m constants left link last → StandsAs m n link → Goes (run_link_steps constants before left link next) n → Behind link next last n
+  link_goes m n constants before left link last next run stand goes =
+      let i = run.inputs_say in
+      let source : SourceFile = record { name = link.source; text = run.text } in
+      let text = read_on (stand.source ∙ run.source_stands.stands) run.source_stands.short goes in
+      let given = inputs_good _ (record { bytes = i.bytes; stands = stand.inputs ∙ i.stands; short = i.short; says = i.says }) text in
+      let begin = begun link.inputs left run.given run.begin (link_running_steps constants before link.outputs next source) n run.begins given in
+      let r = course_good run.program last run.log run.assembled run.done begin in
+      let table = was_written r.went in
+      let statement = was_written table.2 in
+      record {
+        table = table.0;
+        statement = statement.0;
+        went = subst (λ (s : State). Goes (next s.core.stack) (insert (insert n link.outputs.table table.0) link.outputs.statement statement.0)) r.same
+            statement.2;
+      }
 
   links_go : (m n : Files) (constants : List ℕ) (links : List RunLink) (before : ℕ) (left : Option (List ℕ)) (ends : List State)
       → AreLinksApart links → AllByRecursion (StandsAs m n) links → LinksRun m constants left links ends
       → Goes (runs_from constants before left links) n → a.status ≡ status.Ok
-  links_go m n constants [] before left [] apart stand run goes = ap (λ (b : Answer). b.status) (ended a new _ n goes).0
+  links_go m n constants [] before left [] apart stand run goes = ap (λ (b : Answer). b.status) (ended goes).0
   links_go m n constants [] before left (last ∷ ends) apart stand run goes = absurd run
   links_go m n constants (link ∷ links) before left [] apart stand run goes = absurd run
   links_go m n constants (link ∷ links) before left (last ∷ ends) apart stand run goes =
@@ -110,13 +93,6 @@ module _ (a : Answer) (new : Option Files) where
 
   pub runs_well : (m : Files) (params list : List ℕ) → IsGoodRuns m params list → Goes (runs_steps params list) m → a.status ≡ status.Ok
   runs_well m params list h goes =
-      let p = h.params_say in
       let l = h.list_says in
-      let given : names.Given = runs_given params list in
-      let from : List ℕ → List (List (List ℕ)) → Steps = λ constants lines. runs_from constants 0 None (map run_link lines) in
-      let first = read_on a new params _ _ m p.bytes p.stands p.short goes in
-      let second = subst (λ r. Goes (with_params params (λ constants. list_steps given (from constants)) r) m) p.says first in
-      let third = read_on a new list _ _ m l.bytes l.stands l.short second in
-      let fourth = subst (λ r. Goes (with_lines list (from h.constants) r) m) l.says third in
       links_go m m h.constants (map run_link h.lines) 0 None h.ends (lines_apart params list l.bytes h.lines l.says)
-      (all_stand m (map run_link h.lines)) h.links_run fourth
+      (all_stand m (map run_link h.lines)) h.links_run (list_good (runs_given params list) _ l (params_good _ h.params_say goes))

@@ -1,14 +1,14 @@
 -- What `runs` leaves, whatever it answers: the steps of its links, what stands at each place of them, and what is answered there.
 use Rattle.cmd_kit.proofs.Words.{◌≡◌, ◌⊎◌, ℕ, ◌+◌, ◌≤◌, nat_lt, Bool, true, false, if◌then◌else◌, List, [], ◌∷◌, ◌++◌, append_assoc, codes, length, map, take}
-use Rattle.cmd_kit.proofs.Words.{take_all, arith, Option, Some, None, unwrap_or, Result, Ok, Err, refl, sym, ap, subst, inl, inr, ◌∙◌, get, insert, nat_tests}
-use Rattle.cmd_kit.proofs.Words.{length_push, tree_of, Public, files_accepted, IsTableFileOf, constants_of, stated_of, ParamError, parameters_of, most_cycles}
-use Rattle.cmd_kit.proofs.Words.{most_inputs, most_source_bytes, State, Links, links_of, Given, inputs_of, TextCause, Count, Files, ShelfState, with_file}
+use Rattle.cmd_kit.proofs.Words.{take_all, arith, Option, Some, None, unwrap_or, refl, sym, ap, subst, inl, inr, ◌∙◌, get, insert, nat_tests}
+use Rattle.cmd_kit.proofs.Words.{length_push, tree_of, Public, files_accepted, IsTableFileOf, constants_of, stated_of, parameters_of, most_cycles}
+use Rattle.cmd_kit.proofs.Words.{most_inputs, most_source_bytes, State, links_of, Given, inputs_of, TextCause, Count, Files, ShelfState, with_file}
 use Rattle.cmd_kit.proofs.Words.{SinkState, with_piece, Status, Answer, EndsAs, IsRight, steps_of, BeginsWith, FileSays, LinkRuns, broken, broken_line}
 use Rattle.cmd_kit.proofs.Words.{line_of_link, list_steps, most_list_bytes, with_lines, bad_inputs, malformed_line, malformed_text_line, IsCourse, halted}
 use Rattle.cmd_kit.proofs.Words.{trapped, unended, RunLink, given_steps, has_no_cells, is_none_left, left_steps, link_course_steps, link_running_steps}
 use Rattle.cmd_kit.proofs.Words.{links_lines, run_link, run_link_steps, runs_from, runs_given, runs_steps, ComesWhere, Concludes, GivesUp, ServesAs, Works}
 use Rattle.cmd_kit.proofs.Words.{most_inputs_bytes, most_params_bytes, with_inputs, with_params, StatusKind, kind_of, planned, no_command, failed_read}
-use Rattle.cmd_kit.proofs.Words.{failed_write, failed_print, Course, Steps, reading, writing, asking, ending, ends_with, named_line, stop}
+use Rattle.cmd_kit.proofs.Words.{failed_print, Course, Steps, reading, writing, asking, ending, ends_with, named_line, stop}
 use Rattle.air_kit.specs.Acceptance.{IsAccepted}
 use Rattle.rpo_hash.specs.CauseText.{cause_text}
 use Rattle.run_chain.specs.Causes as link_cause
@@ -17,7 +17,7 @@ use Rattle.cmd_kit.specs.RunEnds as ends
 use Rattle.cmd_kit.specs.RunsLaws.{LinkWritten, LinksWritten, none_yet, one_more, Reached, no_links, behind_links, torn_file, NextLeft, nothing, in_table, in_statement, RunsLeft, untouched, came, TellsOfFile, missing, too_long, bad_line, bad_text, unread, IsOfRun, no_program, traps, runs_on, Tells, start_stops, file_stops, run_stops, write_stops, breaks, all_done, IsToldAs, RunsLeaveLinks, RunsLeaveWholeLinks, claim_of_link}
 use Rattle.cmd_kit.specs.Serving.{Ends, FailsAtRead, FailsAtWrite, FrontWritten, IsReading, IsWriting, RefusesFile}
 use Rattle.cmd_kit.specs.Statuses.{no_memory}
-use Rattle.cmd_kit.proofs.Along.{Along, at_place}
+use Rattle.cmd_kit.proofs.Along.{Along, along_file, at_place}
 use Rattle.cmd_kit.proofs.RunsLaw.{no_cells}
 
 -- one link more behind those that are done
@@ -157,19 +157,11 @@ module _ (params list : List ℕ) (first : Files) where
       of_link : Along Stands (run_link_steps constants before left link next) n
       of_link = (
         (at None, here, λ s line of. file_stops link link.source (inl refl) of, refl),
-        λ text stands short. (
-          (at None, here, λ s line of. file_stops link link.inputs (inr refl) of, refl),
-          λ bytes held within. of_inputs text stands short bytes held within (inputs_of bytes) refl,
-        ),
+        λ text stands short. along_file Stands inputs_of (with_inputs link.inputs (given_steps link.inputs left
+            (link_running_steps constants before link.outputs next (record { name = link.source; text = text })))) link.inputs most_inputs_bytes n
+            (at None, here, λ s line of. file_stops link link.inputs (inr refl) of, refl)
+            (λ given says. of_begin text given left refl stands short says) bad,
       )
-        where
-          of_inputs : (text : List ℕ) → get n link.source ≡ Some text → length text ≤ most_source_bytes → (bytes : List ℕ)
-              → get n link.inputs ≡ Some bytes → length bytes ≤ most_inputs_bytes → (read : Result Given TextCause) → inputs_of bytes ≡ read
-              → Along Stands (with_inputs link.inputs (given_steps link.inputs left
-              (link_running_steps constants before link.outputs next (record { name = link.source; text = text }))) read) n
-          of_inputs text stands short bytes held within (Ok given) says =
-              of_begin text given left refl stands short (record { bytes = bytes; stands = held; short = within; says = says })
-          of_inputs text stands short bytes held within (Err cause) says = bad cause
 
     -- behind the links that are done: the next one is begun, unless the last one left too much for it
     went_on : (done later : List RunLink) → done ++ later ≡ map run_link lines → (number : ℕ) → number ≡ length done → (left : List ℕ) (n : Files)
@@ -207,35 +199,18 @@ module _ (params list : List ℕ) (first : Files) where
         (of_links behind later still (before + 1) more (Some last.core.stack) now on))
 
   of_runs : Along Stands (runs_steps params list) first
-  of_runs = (
-    (no_links, untouched, λ s line of. start_stops params (inl refl) of, refl),
-    λ bytes stands short. of_params bytes stands short (parameters_of bytes) refl,
-  )
+  of_runs = along_file Stands parameters_of (with_params params (λ constants. list_steps (runs_given params list) (from constants))) params most_params_bytes
+      first (no_links, untouched, λ s line of. start_stops params (inl refl) of, refl)
+      (λ constants params_say. along_file Stands (links_of (runs_given params list)) (with_lines list (from constants)) list most_list_bytes first
+      (no_links, untouched, λ s line of. start_stops list (inr refl) of, refl)
+      (λ lines list_says. of_links constants lines params_say list_says [] (map run_link lines) refl 0 refl None first none_yet)
+      (λ fault. stopped no_links status.Malformed (malformed_line list fault.line (link_cause.text_of_cause fault.cause)) first untouched
+      (start_stops list (inr refl) (bad_line fault.line (link_cause.text_of_cause fault.cause)))))
+      (λ e. stopped no_links status.Malformed (malformed_line params e.line (cause_text e.cause)) first untouched
+      (start_stops params (inl refl) (bad_line e.line (cause_text e.cause))))
     where
       from : List ℕ → List (List (List ℕ)) → Steps
       from constants lines = runs_from constants 0 None (map run_link lines)
-
-      of_lines : (constants bytes : List ℕ) → FileSays first params most_params_bytes parameters_of constants → get first list ≡ Some bytes
-          → length bytes ≤ most_list_bytes → (read : Links) → links_of (runs_given params list) bytes ≡ read
-          → Along Stands (with_lines list (from constants) read) first
-      of_lines constants bytes params_say stands short (Ok lines) says =
-          of_links constants lines params_say (record { bytes = bytes; stands = stands; short = short; says = says }) [] (map run_link lines) refl 0
-          refl None first none_yet
-      of_lines constants bytes params_say stands short (Err fault) says =
-          stopped no_links status.Malformed (malformed_line list fault.line (link_cause.text_of_cause fault.cause)) first untouched
-          (start_stops list (inr refl) (bad_line fault.line (link_cause.text_of_cause fault.cause)))
-
-      of_params : (bytes : List ℕ) → get first params ≡ Some bytes → length bytes ≤ most_params_bytes → (read : Result (List ℕ) ParamError)
-          → parameters_of bytes ≡ read
-          → Along Stands (with_params params (λ constants. list_steps (runs_given params list) (from constants)) read) first
-      of_params bytes stands short (Ok constants) says = (
-        (no_links, untouched, λ s line of. start_stops list (inr refl) of, refl),
-        λ listed held within. of_lines constants listed
-            (record { bytes = bytes; stands = stands; short = short; says = says }) held within (links_of (runs_given params list) listed) refl,
-      )
-      of_params bytes stands short (Err e) says =
-          stopped no_links status.Malformed (malformed_line params e.line (cause_text e.cause)) first untouched
-          (start_stops params (inl refl) (bad_line e.line (cause_text e.cause)))
 
 -- a file that is not had, as it is answered
 told_of_file : (name : List ℕ) (most : ℕ) (file : Option (List ℕ)) (a : Answer) → RefusesFile name most file a → TellsOfFile name a.status a.line
@@ -261,18 +236,15 @@ module _ (params list : List ℕ) (m : Files) (old new : ShelfState) (is : old.f
   concluded : (left : Steps) (n : Files) (a : Answer) (now : Option Files) → Concludes left now a → Stands params list m left n
       → (reached : Reached) × RunsLeft params list m reached n × Tells params list reached a.status a.line
   concluded (reading name most next) n a now c h = (h.0, h.1, h.2 a.status a.line (told_of_file name most c.0 a c.2))
-  concluded (writing name right next) n a now c h = absurd c
-  concluded (asking question next) n a now c h = absurd c
   concluded (ending end) n a now c h = (h.0, h.1, h.2 a c)
+  concluded left n a now c h = absurd c
 
   unread_there : (name : List ℕ) (left : Steps) (n : Files) → IsReading name left → Stands params list m left n
       → (reached : Reached) × RunsLeft params list m reached n × Tells params list reached status.ReadFault (named_line (codes "read fault ") name)
   unread_there name (reading x most next) n r h =
       let line : List ℕ = named_line (codes "read fault ") name in
       (h.0, h.1, h.2 status.ReadFault line (subst (λ y. TellsOfFile y status.ReadFault line) r unread))
-  unread_there name (writing x right next) n r h = absurd r
-  unread_there name (asking question next) n r h = absurd r
-  unread_there name (ending end) n r h = absurd r
+  unread_there name left n r h = absurd r
 
   any : (left : Steps) (n : Files) → Stands params list m left n → (reached : Reached) × RunsLeft params list m reached n
   any (reading name most next) n h = (h.0, h.1)
@@ -295,10 +267,8 @@ module _ (params list : List ℕ) (m : Files) (old new : ShelfState) (is : old.f
       (b.0, insert n name (take f.front f.bytes), f.files ∙ ap (λ o. with_file o name (take f.front f.bytes)) told, b.1, b.2)
     where
       by : (left : Steps) → IsWriting name f.bytes left → Stands params list m left n → Torn n (take f.front f.bytes) name
-      by (reading x most next) w h = absurd w
       by (writing x right next) w h = subst (Torn n (take f.front f.bytes)) (sym w.0) (h.1 f.bytes f.front w.1)
-      by (asking question next) w h = absurd w
-      by (ending end) w h = absurd w
+      by left w h = absurd w
 
   ended : (a : Answer) → Ends All_steps a old new → Answered a.status a.line
   ended a h =
@@ -318,21 +288,12 @@ module _ (params list : List ℕ) (m : Files) (old new : ShelfState) (is : old.f
       torn_write name h.files.left p.0 h.files.now new.files p.1 h.files.there p.2
 
   answered : (s : Status) (line : List ℕ) → Works (Some All_steps) (kind_of s) (ends_with s line) old new → Answered s line
-  answered status.Ok line h = ended (ends_with status.Ok line) h
-  answered status.Refused line h = ended (ends_with status.Refused line) h
   answered status.Usage line h = absurd h
-  answered status.Source line h = ended (ends_with status.Source line) h
-  answered status.Trap line h = ended (ends_with status.Trap line) h
-  answered status.OutOfCycles line h = ended (ends_with status.OutOfCycles line) h
-  answered status.Missing line h = ended (ends_with status.Missing line) h
   answered status.ReadFault line h = subst (Answered status.ReadFault) (sym h.2) (failed_reading h.0 h.1)
   answered status.WriteFault line h = subst (Answered status.WriteFault) (sym h.2) (failed_writing h.0 h.1)
   answered status.SinkFault line h = absurd h
-  answered status.Malformed line h = ended (ends_with status.Malformed line) h
-  answered status.TooLong line h = ended (ends_with status.TooLong line) h
   answered status.Memory line h = absurd h
-  answered status.OtherProgram line h = ended (ends_with status.OtherProgram line) h
-  answered status.Broken line h = ended (ends_with status.Broken line) h
+  answered s line h = ended (ends_with s line) h
 
   given_up : GivesUp (Some All_steps) old new → Some_left
   given_up (inl h) =
@@ -349,25 +310,19 @@ module _ (params list : List ℕ) (m : Files) (old new : ShelfState) (is : old.f
 
   left_as : (kind : StatusKind) (s : Status) (before now : SinkState) → kind ≡ kind_of s → ServesAs kind (Some All_steps) s old new before now
       → Left_as kind s before now
-  left_as planned s before now of h = let c = answered s h.line h.works in (c.0, c.1, c.2, c.3, (h.line, h.taken, c.4))
   left_as no_command s before now of h =
       absurd (subst (λ kind. Works (Some All_steps) kind (ends_with s h.line) old new) (sym of) h.works)
-  left_as failed_read s before now of h = let c = answered s h.line h.works in (c.0, c.1, c.2, c.3, (h.line, h.taken, c.4))
-  left_as failed_write s before now of h = let c = answered s h.line h.works in (c.0, c.1, c.2, c.3, (h.line, h.taken, c.4))
   left_as failed_print s before now of h =
       let c = answered h.answer.status h.answer.line h.works in (c.0, c.1, c.2, c.3, (h.answer, h.failed, c.4))
   left_as no_memory s before now of h = let c = given_up h.gives_up in (c.0, c.1, c.2, c.3, h.taken)
+  left_as kind s before now of h = let c = answered s h.line h.works in (c.0, c.1, c.2, c.3, (h.line, h.taken, c.4))
 
 -- an answer of the command itself, or of a read that failed, tells of no torn file
 none_torn : (params list : List ℕ) (reached : Reached) (s : Status) (line : List ℕ) → (kind_of s ≡ planned) ⊎ (kind_of s ≡ failed_read)
     → Tells params list reached s line → torn_file reached ≡ None
-none_torn params list reached s line kind (start_stops name where_ of) = refl
-none_torn params list reached s line kind (file_stops link name where_ of) = refl
-none_torn params list reached s line kind (run_stops link text of) = refl
 none_torn params list reached s line (inl kind) (write_stops name) = absurd (cc (kind))
 none_torn params list reached s line (inr kind) (write_stops name) = absurd (cc (kind))
-none_torn params list reached s line kind (breaks link more) = refl
-none_torn params list reached s line kind all_done = refl
+none_torn params list reached s line kind tells = refl
 
 pub runs_leave_links : RunsLeaveLinks
 runs_leave_links words s old new before now params list m serves command is =
@@ -378,14 +333,12 @@ runs_leave_links words s old new before now params list m serves command is =
 pub told_line : (params list : List ℕ) (reached : Reached) (kind : StatusKind) (s : Status) (before now : SinkState)
     → (kind ≡ planned) ⊎ (kind ≡ failed_read) → IsToldAs params list reached kind s before now
     → (line : List ℕ) × (now ≡ record before { taken = with_piece before.taken line }) × Tells params list reached s line
-told_line params list reached planned s before now of h = h
-told_line params list reached failed_read s before now of h = h
 told_line params list reached no_command s before now of h = absurd h
-told_line params list reached failed_write s before now of h = h
 told_line params list reached failed_print s before now (inl of) h = absurd (cc (of))
 told_line params list reached failed_print s before now (inr of) h = absurd (cc (of))
 told_line params list reached no_memory s before now (inl of) h = absurd (cc (of))
 told_line params list reached no_memory s before now (inr of) h = absurd (cc (of))
+told_line params list reached kind s before now of h = h
 
 pub runs_leave_whole_links : RunsLeaveWholeLinks
 runs_leave_whole_links words s old new before now params list m serves kind command is =

@@ -1,12 +1,10 @@
 -- The trace that is filled of a run is accepted for its statement, and is so not refused.
 use Rattle.std.proofs.Common.{◌≡◌, ℕ, List, Result, Ok, refl, subst}
 use Rattle.rpo_hash.specs.Constants.{constants_of}
-use Rattle.rpo_hash.specs.declared.params.Params.{Params}
 use Rattle.block_tree.specs.Trees.{tree_digest}
 use Rattle.block_tree.specs.TreeView.{tree_of}
 use Rattle.block_tree.specs.declared.program.Program.{Program}
 use Rattle.vm_state.specs.Views.{state_of}
-use Rattle.vm_state.specs.declared.statement.Statement.{Statement}
 use Rattle.processor.specs.declared.run.Run.{Run}
 use Rattle.statement.specs.Inputs.{Given}
 use Rattle.statement.specs.Statements.{stated_of}

@@ -1,5 +1,5 @@
 -- From what is made to the end of `make`.
-use Rattle.std.proofs.Common.{◌≡◌, ℕ, List, [], Option, None, Some, ap₂, refl, subst, ◌∙◌}
+use Rattle.std.proofs.Common.{◌≡◌, ℕ, List, [], None, Some, ap₂, refl, subst, ◌∙◌}
 use Rattle.vm_field.specs.Limits.{most_cycles}
 use Rattle.rpo_hash.specs.Constants.{constants_of}
 use Rattle.rpo_hash.specs.declared.params.Params.{Params}
@@ -39,10 +39,6 @@ module _ (name text : List ℕ) (inputs : Inputs) (turns : ℕ) (text_is : text 
   made_as P h =
       subst (λ (g : Given). P (made_source name turns) g) given_is
       (subst (λ (x : List ℕ). P (record { name = name; text = x }) (given_of inputs)) text_is h)
-
-  pub stopped_made : (constants : List ℕ) (o : Outcome) → Stopped constants source None (given_of inputs) most_cycles o
-      → Stopped constants (made_source name turns) None (made_given turns) most_cycles o
-  stopped_made constants o = made_as (λ s g. Stopped constants s None g most_cycles o)
 
   pub run_is_made : (params : Params) (had : held.Course) (made : Made) → Came params source None (given_of inputs) most_cycles had
       → made.source ≡ text → made.inputs ≡ inputs_text inputs.stack inputs.advice → made.lines ≡ make_lines (state_of had.run.state)

@@ -1,22 +1,19 @@
 -- The rules that clap settles for a form: each id once, each long name once, the places numbered from 1.
-use Rattle.std.proofs.Common.{◌≡◌, ◌∙◌, ◌+◌, ◌<◌, ℕ, suc, Bool, cond, true, false, refl, sym, ap, ap₂, subst, List, [], ◌∷◌, ◌++◌, length, Option, Some, None, arith, map, true≢false}
-use Rattle.std.specs.Prelude.{find, not, min, ◌||◌, ◌&&◌, ◌==◌, is_some}
-use Rattle.std.specs.List.{list_any}
+use Rattle.std.proofs.Common.{◌≡◌, ◌∙◌, ◌+◌, ◌<◌, ℕ, suc, Bool, true, false, refl, sym, ap, ap₂, subst, List, [], ◌∷◌, ◌++◌, length, Option, Some, None, arith, map}
+use Rattle.std.specs.Prelude.{min, not, ◌==◌, is_some}
 use Rattle.std.specs.Option.{option_map_or}
 use Rattle.std.specs.Str.{bytes_eq}
 use Rattle.std.proofs.lemmas.List.{map-append}
-use Rattle.std.proofs.lemmas.Slice.Eq.{bytes_eq-Decides}
-use Rattle.std.proofs.lemmas.Bool.{eqb-true}
+use Rattle.std.proofs.lemmas.Bool.{and_parts, both_ways, eqb-true}
 use Rattle.clap.specs.Lexer.{usize_max}
 use Rattle.clap.specs.Kinds.{Kinds, or_else}
-use Rattle.clap.specs.declared.error.kind.ErrorKind.TheVariants.{InvalidValue}
-use Rattle.clap.specs.Faults.{repeat_fault, use_fault}
-use Rattle.clap.specs.Walk.{Row, Rule, Text, action_of, arg_by_id, arg_by_short, has_short, is_append, most_values, takes_several, takes_values, used}
+use Rattle.clap.specs.Faults.{repeat_fault}
+use Rattle.clap.specs.Walk.{Rule, Text, arg_by_id, arg_by_short}
 use Rattle.clap.specs.Simple.{filled, filled_from, with_index}
 use Rattle.cmd_reading.specs.Form.{WordForm, IsForm, names_of_form, is_distinct}
 use Rattle.cmd_reading.specs.FormApp.{place_rule, option_rule, form_rules}
-use Rattle.cmd_reading.proofs.OneByOne.{with_text}
-use Rattle.cmd_reading.proofs.Walks.{IsOne, IsPlain}
+use Rattle.cmd_reading.proofs.Members.{In, distinct-parts, find-in, here, in-map, later, none-in, same-text}
+use Rattle.cmd_reading.proofs.Walks.{AllSettled, IsOne, IsPlain, IsSettled}
 
 -- ---- the settled rules
 
@@ -59,65 +56,31 @@ form-filled f h = filled-places 1 f.places _ _ (let l = h.few in omega (arith, l
 
 -- ---- what each of them is
 
-pub record IsSettled (a : Rule) : Type 0 where
-  pub takes : takes_values a ≡ true
-  pub several : takes_several a ≡ false
-  pub append : is_append (action_of a) ≡ false
-  pub trailing : a.trailing_var_arg ≡ false
-  pub most : most_values a ≡ 1
-  pub none : (rows : List Row) → use_fault false a [] rows ≡ InvalidValue ∷ []
-  pub once : (v : Text) (rows : List Row) → use_fault false a (v ∷ []) rows ≡ repeat_fault false a.id rows
-  pub used_once : (v : Text) (rows : List Row) → used a (v ∷ []) rows ≡ with_text a.id v rows
-  pub short : (x : ℕ) → has_short a x ≡ false
-  pub defaults : a.defaults ≡ []
-  pub simple : a.is_simple ≡ true
-  pub free : a.is_free ≡ true
-  pub index : (i : ℕ) → option_map_or (λ k. k == i) a.index false ≡ true → min (i + 1) usize_max ≡ suc i
-
 or-nil : (k : Kinds) → or_else k [] ≡ k
-or-nil [] = refl
-or-nil (x ∷ xs) = refl
+or-nil = elim [ [] ↦ refl | x ∷ xs ↦ refl ]
 
-index_small : (k i : ℕ) → k < 1000 → (k == i) ≡ true → min (i + 1) usize_max ≡ suc i
-index_small k i l e = let same : k ≡ i = eqb-true k i e in omega (arith, l, same)
+-- an option or a place, whatever its long name and its number
+settled : (l : Option Text) (r : Bool) (n : Option ℕ) (id : Text)
+    → ((i : ℕ) → option_map_or (λ k. k == i) n false ≡ true → min (i + 1) usize_max ≡ suc i)
+    → IsSettled (record (settled_option false id) { long = l; required = r; index = n })
+settled l r n id index = record {
+  takes = refl;
+  several = refl;
+  append = refl;
+  trailing = refl;
+  most = refl;
+  none = λ rows. refl;
+  once = λ v rows. or-nil (repeat_fault false id rows);
+  used_once = λ v rows. refl;
+  short = λ x. refl;
+  defaults = refl;
+  simple = refl;
+  free = refl;
+  index = index;
+}
 
 place-settled : (k : ℕ) (id : Text) → k < 1000 → IsSettled (settled_place k id)
-place-settled k id l = record {
-  takes = refl;
-  several = refl;
-  append = refl;
-  trailing = refl;
-  most = refl;
-  none = λ rows. refl;
-  once = λ v rows. or-nil (repeat_fault false id rows);
-  used_once = λ v rows. refl;
-  short = λ x. refl;
-  defaults = refl;
-  simple = refl;
-  free = refl;
-  index = λ i e. index_small k i l e;
-}
-
-option-settled : (r : Bool) (id : Text) → IsSettled (settled_option r id)
-option-settled r id = record {
-  takes = refl;
-  several = refl;
-  append = refl;
-  trailing = refl;
-  most = refl;
-  none = λ rows. refl;
-  once = λ v rows. or-nil (repeat_fault false id rows);
-  used_once = λ v rows. refl;
-  short = λ x. refl;
-  defaults = refl;
-  simple = refl;
-  free = refl;
-  index = λ i e. absurd (true≢false (sym e));
-}
-
-abbrev pub AllSettled : List Rule → Type 0
-AllSettled [] = Unit {0}
-AllSettled (a ∷ c) = IsSettled a × AllSettled c
+place-settled k id l = settled None true (Some k) id (λ i e. let same : k ≡ i = eqb-true k i e in omega (arith, l, same))
 
 all-append : (c d : List Rule) → AllSettled c → AllSettled d → AllSettled (c ++ d)
 all-append [] d h k = k
@@ -129,7 +92,7 @@ all-places k (id ∷ ids) l = (place-settled k id (omega (arith, l)), all-places
 
 all-options : (r : Bool) (ids : List Text) → AllSettled (map (settled_option r) ids)
 all-options r [] = tt
-all-options r (id ∷ ids) = (option-settled r id, all-options r ids)
+all-options r (id ∷ ids) = (settled (Some id) r None id (λ i e. absurd (cc)), all-options r ids)
 
 pub form-settled : (f : WordForm) → IsForm f → AllSettled (settled_rules f)
 form-settled f h =
@@ -138,99 +101,50 @@ form-settled f h =
 
 -- ---- their ids
 
-ids-places : (k : ℕ) (ids : List Text) → map (λ (a : Rule). a.id) (places_from k ids) ≡ ids
+abbrev ids_of : List Rule → List Text
+ids_of c = map (λ (a : Rule). a.id) c
+
+ids-places : (k : ℕ) (ids : List Text) → ids_of (places_from k ids) ≡ ids
 ids-places k [] = refl
 ids-places k (id ∷ ids) = ap (λ (c : List Text). id ∷ c) (ids-places (k + 1) ids)
 
-ids-options : (r : Bool) (ids : List Text) → map (λ (a : Rule). a.id) (map (settled_option r) ids) ≡ ids
+ids-options : (r : Bool) (ids : List Text) → ids_of (map (settled_option r) ids) ≡ ids
 ids-options r [] = refl
 ids-options r (id ∷ ids) = ap (λ (c : List Text). id ∷ c) (ids-options r ids)
 
-pub form-ids : (f : WordForm) → map (λ (a : Rule). a.id) (settled_rules f) ≡ names_of_form f
+form-ids : (f : WordForm) → ids_of (settled_rules f) ≡ names_of_form f
 form-ids f =
     map-append (λ (a : Rule). a.id) (places_from 1 f.places) _
     ∙ ap₂ (λ (x y : List Text). x ++ y) (ids-places 1 f.places)
     (map-append (λ (a : Rule). a.id) (map (settled_option true) f.needed) _
     ∙ ap₂ (λ (x y : List Text). x ++ y) (ids-options true f.needed) (ids-options false f.free))
 
--- ---- rules that are found
-
-pub data In (a : Rule) : List Rule → Type 0 where
-  here : {c : List Rule} → In a (a ∷ c)
-  later : {b : Rule} {c : List Rule} → In a c → In a (b ∷ c)
-
-pub find-in : (p : Rule → Bool) (c : List Rule) (a : Rule) → find p c ≡ Some a → In a c × (p a ≡ true)
-find-in p [] a e = absurd (cc)
-find-in p (b ∷ c) a e = go (p b) refl e (find-in p c a)
-  where
-    go : (t : Bool) → p b ≡ t → cond t (Some b) (find p c) ≡ Some a → (find p c ≡ Some a → In a c × (p a ≡ true)) → In a (b ∷ c) × (p a ≡ true)
-    go true t e rest = let same : b ≡ a = cc in (subst (λ x. In x (b ∷ c)) same here, subst (λ x. p x ≡ true) same t)
-    go false t e rest = let r = rest e in (later r.0, r.1)
+-- ---- a list of settled rules of distinct ids is plain
 
 settled-in : {a : Rule} {c : List Rule} → In a c → AllSettled c → IsSettled a
 settled-in here h = h.0
 settled-in (later i) h = settled-in i h.1
 
-pub same-text : (x : Text) → bytes_eq x x ≡ true
-same-text x = (bytes_eq-Decides x x).1 refl
-
--- a text of which no other is the same is not that of a rule
-apart-in : {a : Rule} {c : List Rule} → In a c → (x : Text) → list_any (bytes_eq x) (map (λ (b : Rule). b.id) c) ≡ false → bytes_eq x a.id ≡ false
-apart-in {a} here x e = go (bytes_eq x a.id) _ e
-  where
-    go : (t u : Bool) → (t || u) ≡ false → t ≡ false
-    go true u e = e
-    go false u e = refl
-apart-in (later {b} i) x e = apart-in i x (go (bytes_eq x b.id) _ e)
-  where
-    go : (t u : Bool) → (t || u) ≡ false → u ≡ false
-    go true u e = absurd (true≢false e)
-    go false u e = e
-
-both : (t u : Bool) → (not t && u) ≡ true → (t ≡ false) × (u ≡ true)
-both true u e = absurd (true≢false (sym e))
-both false u e = (refl, e)
-
-pub found-by-id : {a : Rule} {c : List Rule} → In a c → is_distinct (map (λ (b : Rule). b.id) c) ≡ true → arg_by_id c a.id ≡ Some a
-found-by-id {a} (here {c}) e = ap (λ (t : Bool). cond t (Some a) (arg_by_id c a.id)) (same-text a.id)
+found-by-id : {a : Rule} {c : List Rule} → In a c → is_distinct (ids_of c) ≡ true → arg_by_id c a.id ≡ Some a
+found-by-id {a} here e = rw (same-text a.id) refl
 found-by-id {a} (later {b} {c} i) e =
-    let parts = both (list_any (bytes_eq b.id) (map (λ (d : Rule). d.id) c)) _ e in
-    ap (λ (t : Bool). cond t (Some b) (arg_by_id c a.id)) (apart-in i b.id parts.0) ∙ found-by-id i parts.1
+    let parts = distinct-parts b.id (ids_of c) e in
+    rw (none-in (bytes_eq b.id) (in-map (λ (d : Rule). d.id) i) parts.0) (found-by-id i parts.1)
 
--- ---- a list of settled rules of distinct ids is plain
-
-module _ (c : List Rule) (all : AllSettled c) (distinct : is_distinct (map (λ (b : Rule). b.id) c) ≡ true) where
-  one-in : (a : Rule) → In a c → IsOne c a
-  one-in a i =
-      let h = settled-in i all in
-      record {
-        by_id = found-by-id i distinct;
-        self = same-text a.id;
-        takes = h.takes;
-        several = h.several;
-        append = h.append;
-        trailing = h.trailing;
-        most = h.most;
-        none = h.none;
-        once = h.once;
-        used_once = h.used_once;
-      }
+module _ (c : List Rule) (all : AllSettled c) (distinct : is_distinct (ids_of c) ≡ true) where
+  one-in : {a : Rule} → In a c → IsOne c a
+  one-in i = record { by_id = found-by-id i distinct; is = settled-in i all }
 
   no-short : (x : ℕ) (o : Option Rule) → arg_by_short c x ≡ o → o ≡ None
   no-short x None e = refl
   no-short x (Some a) e =
-      let f = find-in _ c a e in
-      let h = settled-in f.0 all in
-      absurd (true≢false (sym f.1 ∙ go (not (is_some a.index)) _ (h.short x)))
-    where
-      go : (t u : Bool) → u ≡ false → (t && u) ≡ false
-      go true u e = e
-      go false u e = refl
+      let f = find-in _ c e in
+      absurd (both_ways _ ((settled-in f.0 all).short x) (and_parts (not (is_some a.index)) _ f.1).1)
 
-  pub settled-plain : IsPlain c
+  settled-plain : IsPlain c
   settled-plain = record {
-    long = λ x a e. one-in a (find-in _ c a e).0;
-    place = λ i a e. let f = find-in _ c a e in (one-in a f.0, (settled-in f.0 all).index i f.1);
+    long = λ x a e. one-in (find-in _ c e).0;
+    place = λ i a e. let f = find-in _ c e in (one-in f.0, (settled-in f.0 all).index i f.1);
     short = λ x. no-short x (arg_by_short c x) refl;
   }
 

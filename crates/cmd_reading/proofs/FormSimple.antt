@@ -7,7 +7,8 @@ use Rattle.clap.specs.Words.{is_simple, is_simple_and_free}
 use Rattle.clap.specs.Simple.{filled_from}
 use Rattle.cmd_reading.specs.Form.{WordForm, IsForm}
 use Rattle.cmd_reading.specs.FormApp.{place_rule, option_rule, form_rules, form_app}
-use Rattle.cmd_reading.proofs.FormRules.{AllSettled, IsSettled, form-filled, form-settled}
+use Rattle.cmd_reading.proofs.FormRules.{form-filled, form-settled}
+use Rattle.cmd_reading.proofs.Walks.{AllSettled, IsSettled}
 
 -- before building
 simple-then : (rule : Text → Rule) → ((id : Text) → (rule id).is_simple ≡ true) → (ids : List Text) (rest : List Rule)

@@ -1,3 +1,4 @@
+pub mod Members
 pub mod OneByOne
 pub mod Walks
 pub mod FormUses
@@ -10,8 +11,6 @@ pub mod PartUses
 pub mod PartLemmas
 pub mod PartTexts
 pub mod PartForm
-pub mod PartBack
-pub mod PartApart
 pub mod PlainParts
 pub mod PlainTexts
 pub mod Meant

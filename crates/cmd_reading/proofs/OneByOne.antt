@@ -23,9 +23,12 @@ abbrev pub in_place : Option Text → Text → Option (List Use) → Option (Lis
 in_place None v rest = None
 in_place (Some id) v rest = plus id v rest
 
+abbrev pub is_dashes : Text → Bool
+is_dashes word = bytes_eq word (45 ∷ 45 ∷ [])
+
 -- `--`, and what begins with a dash and goes on
 abbrev pub clap_flag : Text → Bool
-clap_flag word = bytes_eq word (45 ∷ 45 ∷ []) || (is_some (long_of word) || is_some (short_of word))
+clap_flag word = is_dashes word || (is_some (long_of word) || is_some (short_of word))
 
 -- the words after `--`
 unfoldable pub read_places : Form → ℕ → List Text → Option (List Use)
@@ -51,7 +54,7 @@ unfoldable pub read : Form → Option Text → ℕ → List Text → Option (Lis
 read f None k [] = Some []
 read f (Some id) k [] = None
 read f None k (word ∷ rest) =
-    if bytes_eq word (45 ∷ 45 ∷ []) then read_places f k rest
+    if is_dashes word then read_places f k rest
     else word_read (long_of word) (short_of word) f k word (read f None k rest) (λ id. read f (Some id) k rest) (read f None (suc k) rest)
 read f (Some id) k (word ∷ rest) = value_read id word (read f None k rest)
 

@@ -1,34 +1,22 @@
--- Uses that join and have what is needed are of parts that have the form.
-use Rattle.std.proofs.Common.{◌≡◌, ◌∙◌, ◌+◌, ◌-◌, ◌≤◌, ℕ, zero, suc, Bool, cond, true, false, refl, sym, ap, subst, List, [], ◌∷◌, ◌++◌, length, map, Some, None, true≢false, arith, append-nil}
-use Rattle.std.specs.Prelude.{not, ◌||◌, ◌&&◌, ◌==◌, is_some, if◌then◌else◌}
+-- Parts that have the form are uses that join, and the other way round.
+use Rattle.std.proofs.Common.{◌≡◌, ◌∙◌, ◌+◌, ◌≤◌, ◌<◌, ℕ, zero, suc, true, false, refl, sym, ap, List, [], ◌∷◌, ◌++◌, length, map, Some, None, arith, append-nil, inl, inr}
+use Rattle.std.specs.Prelude.{not, ◌||◌, ◌==◌, is_some}
 use Rattle.std.specs.List.{list_any}
 use Rattle.std.specs.Str.{bytes_eq}
+use Rattle.std.proofs.lemmas.Bool.{cases_Bool, not-true, or_parts}
 use Rattle.std.proofs.lemmas.List.{append_assoc}
 use Rattle.std.proofs.lemmas.List.Folds.{list_any-append}
-use Rattle.std.proofs.lemmas.Slice.Eq.{bytes_eq-Decides}
 use Rattle.std.proofs.lemmas.Bool.Decides.{nat_tests}
+use Rattle.std.proofs.lemmas.Option.{none-some}
 use Rattle.clap.specs.Words.{Text}
-use Rattle.cmd_reading.specs.Form.{WordForm, dashed}
-use Rattle.cmd_reading.proofs.OneByOne.{Use, has_use, joined, text_of}
+use Rattle.cmd_reading.specs.Form.{WordForm, IsForm, dashed, options_of}
+use Rattle.cmd_reading.proofs.OneByOne.{Use, has_use, joined}
 use Rattle.cmd_reading.proofs.FormUses.{place_from}
-use Rattle.cmd_reading.proofs.PartUses.{named, uses_from}
+use Rattle.cmd_reading.proofs.Members.{bytes-apart, find-in, three_parts}
+use Rattle.cmd_reading.proofs.PartUses.{AreUses, named, none, placed, valued}
 use Rattle.cmd_words.specs.Words.{CommandPart, positional, given, lacking, has_form, positional_at, value_of}
 use Rattle.cmd_reading.proofs.SaysLemmas.{some-text}
-use Rattle.cmd_reading.proofs.PartTexts.{NoPlace, found-name, in-place-is, option-is, option-text}
-
-pub bytes-same : (x y : Text) → bytes_eq x y ≡ true → bytes_eq y x ≡ true
-bytes-same x y e = (bytes_eq-Decides y x).1 (sym ((bytes_eq-Decides x y).0 e))
-
-pub bytes-apart : (x y : Text) → bytes_eq x y ≡ false → bytes_eq y x ≡ false
-bytes-apart x y e = go (bytes_eq y x) refl
-  where
-    go : (b : Bool) → bytes_eq y x ≡ b → b ≡ false
-    go true h = absurd (true≢false (sym (bytes-same y x h) ∙ e))
-    go false h = refl
-
-or-parts : (t u : Bool) → (t || u) ≡ false → (t ≡ false) × (u ≡ false)
-or-parts true u e = absurd (true≢false e)
-or-parts false u e = (refl, e)
+use Rattle.cmd_reading.proofs.PartTexts.{known-name, less, named-is, nonzero, not-again, option-text}
 
 -- ---- each name once
 
@@ -36,36 +24,51 @@ abbrev pub NoRepeat : List Use → Type 0
 NoRepeat [] = Unit {0}
 NoRepeat (u ∷ us) = (has_use u.0 us ≡ false) × NoRepeat us
 
-abbrev pub Fresh : List Use → List Use → Type 0
+abbrev Fresh : List Use → List Use → Type 0
 Fresh seen [] = Unit {0}
 Fresh seen (u ∷ us) = (has_use u.0 seen ≡ false) × Fresh seen us
 
-seen-parts : (id : Text) (seen : List Use) (u : Use) → has_use id (seen ++ u ∷ []) ≡ false → (has_use id seen ≡ false) × (bytes_eq u.0 id ≡ false)
-seen-parts id seen u e =
-    let h = or-parts (has_use id seen) _ (sym (list_any-append (λ (x : Use). bytes_eq x.0 id) seen (u ∷ [])) ∙ e) in
-    (h.0, (or-parts (bytes_eq u.0 id) false h.1).0)
+seen-last : (id : Text) (seen : List Use) (u : Use) → has_use id (seen ++ u ∷ []) ≡ (has_use id seen || (bytes_eq u.0 id || false))
+seen-last id seen u = list_any-append (λ (x : Use). bytes_eq x.0 id) seen (u ∷ [])
 
-fresh-front : (seen : List Use) (u : Use) (us : List Use) → Fresh (seen ++ u ∷ []) us → Fresh seen us
-fresh-front seen u [] h = tt
-fresh-front seen u (w ∷ us) h = ((seen-parts w.0 seen u h.0).0, fresh-front seen u us h.1)
+fresh-parts : (seen : List Use) (u : Use) (us : List Use) → Fresh (seen ++ u ∷ []) us → Fresh seen us × (has_use u.0 us ≡ false)
+fresh-parts seen u [] h = (tt, refl)
+fresh-parts seen u (w ∷ us) h =
+    let later = fresh-parts seen u us h.1 in
+    let here = or_parts (has_use w.0 seen) _ (sym (seen-last w.0 seen u) ∙ h.0) in
+    ((here.0, later.0), rw (bytes-apart u.0 w.0 (or_parts _ false here.1).0) later.1)
 
-fresh-last : (seen : List Use) (u : Use) (us : List Use) → Fresh (seen ++ u ∷ []) us → has_use u.0 us ≡ false
-fresh-last seen u [] h = refl
-fresh-last seen u (w ∷ us) h =
-    ap (λ b. b || has_use u.0 us) (bytes-apart u.0 w.0 (seen-parts w.0 seen u h.0).1) ∙ fresh-last seen u us h.1
+fresh-more : (seen : List Use) (u : Use) (us : List Use) → has_use u.0 us ≡ false → Fresh seen us → Fresh (seen ++ u ∷ []) us
+fresh-more seen u [] e h = tt
+fresh-more seen u (w ∷ us) e h =
+    let p = or_parts (bytes_eq w.0 u.0) (has_use u.0 us) e in
+    (seen-last w.0 seen u ∙ rw (h.0, bytes-apart w.0 u.0 p.0) refl, fresh-more seen u us p.1 h.1)
 
-pub joined-is : (seen us vs : List Use) → joined seen us ≡ Some vs → NoRepeat us × Fresh seen us × (seen ++ us ≡ vs)
+joined-is : (seen us vs : List Use) → joined seen us ≡ Some vs → NoRepeat us × Fresh seen us × (seen ++ us ≡ vs)
 unfolding joined
 joined-is seen [] vs e = let same : seen ≡ vs = cc in (tt, tt, append-nil seen ∙ same)
-joined-is seen (u ∷ us) vs e = go (has_use u.0 seen) refl e (joined-is (seen ++ u ∷ []) us vs)
-  where
-    go : (b : Bool) → has_use u.0 seen ≡ b → cond b None (joined (seen ++ u ∷ []) us) ≡ Some vs
-        → (joined (seen ++ u ∷ []) us ≡ Some vs → NoRepeat us × Fresh (seen ++ u ∷ []) us × ((seen ++ u ∷ []) ++ us ≡ vs))
-        → NoRepeat (u ∷ us) × Fresh seen (u ∷ us) × (seen ++ u ∷ us ≡ vs)
-    go true h e rest = absurd (cc)
-    go false h e rest =
-        let r = rest e in
-        ((fresh-last seen u us r.1, r.0), (h, fresh-front seen u us r.1), sym (append_assoc seen (u ∷ []) us) ∙ r.2)
+joined-is seen (u ∷ us) vs e = elim (cases_Bool (has_use u.0 seen)) [
+  | inl h ↦ absurd (none-some vs (rw h at e))
+  | inr h ↦
+      let r = joined-is (seen ++ u ∷ []) us vs (rw h at e) in
+      let parts = fresh-parts seen u us r.1 in
+      ((parts.1, r.0), (h, parts.0), sym (append_assoc seen (u ∷ []) us) ∙ r.2)
+]
+
+joins : (seen us : List Use) → NoRepeat us → Fresh seen us → joined seen us ≡ Some (seen ++ us)
+unfolding joined
+joins seen [] n h = ap Some (sym (append-nil seen))
+joins seen (u ∷ us) n h = rw h.0 (joins (seen ++ u ∷ []) us n.1 (fresh-more seen u us n.0 h.1) ∙ ap Some (append_assoc seen (u ∷ []) us))
+
+fresh-all : (us : List Use) → Fresh [] us
+fresh-all [] = tt
+fresh-all (u ∷ us) = (refl, fresh-all us)
+
+pub join-once : (us vs : List Use) → joined [] us ≡ Some vs → NoRepeat us × (us ≡ vs)
+join-once us vs e = let r = joined-is [] us vs e in (r.0, r.2)
+
+pub once-joins : (us : List Use) → NoRepeat us → joined [] us ≡ Some us
+once-joins us once = joins [] us once (fresh-all us)
 
 -- ---- the form
 
@@ -73,71 +76,63 @@ place-past : (j : ℕ) (ids : List Text) (i : ℕ) → j + length ids ≤ i → 
 place-past j [] i l = refl
 place-past j (id ∷ ids) i l =
     let other : (j == i) ≡ false = grind (arith, nat_tests) in
-    ap (λ (b : Bool). if b then Some id else place_from (j + 1) ids i) other ∙ place-past (j + 1) ids i (omega (arith, l))
+    rw other (place-past (j + 1) ids i (omega (arith, l)))
 
-known-name : (names : List Text) (name m : Text) → named names name ≡ Some m → list_any (bytes_eq name) (map dashed names) ≡ true
-known-name [] name m e = absurd (cc)
-known-name (n ∷ names) name m e = go (bytes_eq (dashed n) name) refl e (known-name names name m)
-  where
-    first : (b u : Bool) → b ≡ true → (b || u) ≡ true
-    first true u h = refl
-    first false u h = absurd (true≢false (sym h))
+pub place-there : (j : ℕ) (ids : List Text) (i : ℕ) → j ≤ i → i < j + length ids → (id : Text) × (place_from j ids i ≡ Some id)
+place-there j [] i l h = absurd (omega (arith, l, h))
+place-there j (id ∷ ids) i l h = elim (cases_Bool (j == i)) [
+  | inl e ↦ (id, rw e refl)
+  | inr e ↦ let more : j + 1 ≤ i = grind (arith, nat_tests) in rw e (place-there (j + 1) ids i more (omega (arith, h)))
+]
 
-    last : (b u : Bool) → u ≡ true → (b || u) ≡ true
-    last true u h = refl
-    last false u h = h
-
-    go : (b : Bool) → bytes_eq (dashed n) name ≡ b → cond b (Some n) (named names name) ≡ Some m
-        → (named names name ≡ Some m → list_any (bytes_eq name) (map dashed names) ≡ true) → list_any (bytes_eq name) (dashed n ∷ map dashed names) ≡ true
-    go true h e later = first _ _ (bytes-same (dashed n) name h)
-    go false h e later = last (bytes_eq name (dashed n)) _ (later e)
+pub name-known : (names : List Text) (name : Text) → list_any (bytes_eq name) (map dashed names) ≡ true → (m : Text) × (named names name ≡ Some m)
+name-known [] name e = absurd (cc)
+name-known (n ∷ names) name e = elim (cases_Bool (bytes_eq (dashed n) name)) [
+  | inl h ↦ (n, rw h refl)
+  | inr h ↦ rw h (name-known names name (rw (bytes-apart (dashed n) name h) at e))
+]
 
 -- as many positionals, and no fewer
 abbrev pub Reaches : ℕ → List CommandPart → Type 0
-Reaches zero parts = Unit {0}
-Reaches (suc c) parts = is_some (positional_at c parts) ≡ true
+Reaches count parts = (c : ℕ) → suc c ≡ count → is_some (positional_at c parts) ≡ true
 
-module _ (f : WordForm) (apart : (name m : Text) → named (f.needed ++ f.free) name ≡ Some m → NoPlace f m) where
-  abbrev names : List Text
-  names = f.needed ++ f.free
+reaches-rest : (c : ℕ) (w : Text) (parts : List CommandPart) → Reaches (suc c) (positional w ∷ parts) → Reaches c parts
+reaches-rest c w parts h d e = rw (nonzero d, less d) at (h (suc d) (ap suc e))
 
-  nonzero : (c : ℕ) → (suc c == 0) ≡ false
-  nonzero c = grind (arith, nat_tests)
+module _ (f : WordForm) (h : IsForm f) where
+  abbrev Has : ℕ → List CommandPart → Type 0
+  Has count parts = has_form count (map dashed (options_of f)) parts ≡ true
 
-  less : (c : ℕ) → suc c - 1 ≡ c
-  less c = omega arith
+  -- an option is not used again where its value is not given again
+  value-used : {k : ℕ} (name : Text) {m : Text} {parts : List CommandPart} {us : List Use} → named (options_of f) name ≡ Some m → AreUses f k parts us
+      → is_some (value_of name parts) ≡ has_use m us
+  value-used name {m} {parts} {us} e r =
+      rw (named-is (options_of f) name e) (ap is_some (sym (option-text f h (find-in _ (options_of f) e).0 r)) ∙ sym (some-text m us))
 
-  reaches-rest : (c : ℕ) (w : Text) (parts : List CommandPart) → Reaches (suc c) (positional w ∷ parts) → Reaches c parts
-  reaches-rest zero w parts h = tt
-  reaches-rest (suc d) w parts h =
-      ap (λ j. is_some (positional_at j parts)) (sym (less d))
-      ∙ ap (λ (b : Bool). is_some (if b then Some w else positional_at (suc d - 1) parts)) (sym (nonzero d)) ∙ h
+  -- uses whose names come once have the form, where the last place is taken
+  pub form-holds : {k : ℕ} (count : ℕ) {parts : List CommandPart} {us : List Use} → AreUses f k parts us → NoRepeat us → k + count ≡ suc (length f.places)
+      → Reaches count parts → Has count parts
+  form-holds zero none once at reach = refl
+  form-holds (suc c) none once at reach = let no = reach c refl in absurd (cc)
+  form-holds zero (placed {k} {id} e r) once at reach = absurd (none-some id (sym (place-past 1 f.places k (omega (arith, at))) ∙ e))
+  form-holds (suc c) (placed {word} {parts} e r) once at reach =
+      rw (nonzero c, less c) (form-holds c r once.1 (omega (arith, at)) (reaches-rest c word parts reach))
+  form-holds count (valued {name} e r) once at reach =
+      rw (known-name (options_of f) name e, value-used name e r, once.0) (form-holds count r once.1 at reach)
 
-  pub form-holds : (k count : ℕ) (parts : List CommandPart) (us : List Use) → uses_from f k parts ≡ Some us → NoRepeat us
-      → k + count ≡ suc (length f.places) → Reaches count parts → has_form count (map dashed names) parts ≡ true
-  form-holds k zero [] us e once at h = refl
-  form-holds k (suc c) [] us e once at h = absurd (true≢false (sym h))
-  form-holds k zero (positional w ∷ parts) us e once at h =
-      let r = in-place-is (place_from 1 f.places k) w (uses_from f (suc k) parts) us e in
-      let none : place_from 1 f.places k ≡ None = place-past 1 f.places k (omega (arith, at)) in
-      absurd (none-some r.0 (sym none ∙ r.2))
-    where
-      none-some : (id : Text) → None ≡ Some id → ⊥
-      none-some id q = cc
-  form-holds k (suc c) (positional w ∷ parts) us e once at h =
-      let r = in-place-is (place_from 1 f.places k) w (uses_from f (suc k) parts) us e in
-      let rest = form-holds (suc k) c parts r.1 r.3 (subst NoRepeat (sym r.4) once).1 (omega (arith, at)) (reaches-rest c w parts h) in
-      ap (λ (b : Bool). not b && has_form (suc c - 1) (map dashed names) parts) (nonzero c)
-      ∙ ap (λ j. has_form j (map dashed names) parts) (less c) ∙ rest
-  form-holds k count (given name v ∷ parts) us e once at h =
-      let r = option-is (named names name) v (uses_from f k parts) us e in
-      let single = subst NoRepeat (sym r.4) once in
-      let same : name ≡ dashed r.0 = found-name names name r.0 r.2 in
-      let value : value_of name parts ≡ text_of r.0 r.1 = ap (λ x. value_of x parts) same ∙ sym (option-text f r.0 (apart name r.0 r.2) k parts r.1 r.3) in
-      let none : is_some (value_of name parts) ≡ false = ap is_some value ∙ sym (some-text r.0 r.1) ∙ single.0 in
-      rw (known-name names name r.0 r.2, none) (form-holds k count parts r.1 r.3 single.1 at (moved count h))
-    where
-      moved : (c : ℕ) → Reaches c (given name v ∷ parts) → Reaches c parts
-      moved zero q = tt
-      moved (suc d) q = q
-  form-holds k count (lacking ∷ parts) us e once at h = absurd (cc)
+  -- parts of the form are uses, each name once
+  pub form-uses-of : (k count : ℕ) (parts : List CommandPart) → Has count parts → 1 ≤ k → k + count ≡ suc (length f.places)
+      → (us : List Use) × AreUses f k parts us × NoRepeat us
+  form-uses-of k zero [] e l at = ([], none, tt)
+  form-uses-of k (suc c) [] e l at = let no = nonzero c in absurd (cc)
+  form-uses-of k zero (positional w ∷ parts) e l at = absurd (cc)
+  form-uses-of k (suc c) (positional w ∷ parts) e l at =
+      let p = place-there 1 f.places k l (omega (arith, at)) in
+      let rest = form-uses-of (suc k) c parts (rw (nonzero c, less c) at e) (omega (arith, l)) (omega (arith, at)) in
+      ((p.0, w) ∷ rest.0, placed p.1 rest.1, (not-again f h p.1 (omega arith) rest.1, rest.2))
+  form-uses-of k count (given name v ∷ parts) e l at =
+      let t = three_parts (list_any (bytes_eq name) (map dashed (options_of f))) (not (is_some (value_of name parts))) _ e in
+      let m = name-known (options_of f) name t.0 in
+      let rest = form-uses-of k count parts t.2 l at in
+      ((m.0, v) ∷ rest.0, valued m.1 rest.1, (sym (value-used name m.1 rest.1) ∙ not-true _ t.1, rest.2))
+  form-uses-of k count (lacking ∷ parts) e l at = absurd (cc)

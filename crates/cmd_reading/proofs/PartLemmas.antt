@@ -1,5 +1,5 @@
 -- The reader of one word at a time, against the parts that words spell.
-use Rattle.std.proofs.Common.{◌≡◌, ◌∙◌, ◌+◌, ℕ, suc, Bool, cond, true, false, refl, sym, ap, subst, List, [], ◌∷◌, ◌++◌, Option, Some, None, ◌≤◌, take, drop, true≢false, arith}
+use Rattle.std.proofs.Common.{◌≡◌, ◌∙◌, ◌+◌, ℕ, suc, Bool, cond, true, false, refl, sym, ap, subst, List, [], ◌∷◌, Option, Some, None, ◌≤◌, take, drop, true≢false, arith}
 use Rattle.std.specs.Prelude.{not, nat_lt, length, ◌||◌, ◌==◌, if◌then◌else◌}
 use Rattle.std.specs.List.{before_first, after_first, position_or_len}
 use Rattle.std.proofs.lemmas.Bool.Decides.{nat_tests}
@@ -7,10 +7,10 @@ use Rattle.std.proofs.lemmas.List.{take_all}
 use Rattle.std.proofs.lemmas.Bool.{eqb-true}
 use Rattle.clap.specs.Lexer.{has_byte, name_and_value}
 use Rattle.clap.specs.Words.{Text}
-use Rattle.cmd_reading.specs.Form.{WordForm, dashed}
+use Rattle.cmd_reading.specs.Form.{WordForm, dashed, options_of}
 use Rattle.cmd_reading.proofs.OneByOne.{Use, in_place, clap_flag, option_read, plus, read, read_places}
 use Rattle.cmd_reading.proofs.FormUses.{clap_form, place_from}
-use Rattle.cmd_reading.proofs.PartUses.{AllPlain, named, option_use, uses_from}
+use Rattle.cmd_reading.proofs.PartUses.{AllPlain, named, plus-is, uses_from}
 use Rattle.cmd_words.specs.Words.{CommandPart, given, anything, positionals, value_comes, sign_in, option_part, mode_behind_option, parts_from, with_part}
 
 -- ---- what the one reads is what the other is, and the other way round where no text looks like an option
@@ -24,10 +24,6 @@ close-same o = record { below = λ us e. e; above = λ us e plain. e }
 
 close-none : (p : Option (List Use)) → ((us : List Use) → p ≡ Some us → AllPlain us → ⊥) → Close None p
 close-none p h = record { below = λ us e. absurd (cc); above = λ us e plain. absurd (h us e plain) }
-
-pub plus-is : (id v : Text) (p : Option (List Use)) (us : List Use) → plus id v p ≡ Some us → (vs : List Use) × (p ≡ Some vs) × ((id, v) ∷ vs ≡ us)
-plus-is id v None us e = absurd (cc)
-plus-is id v (Some vs) us e = (vs, refl, cc)
 
 close-plus : (id v : Text) (o p : Option (List Use)) → Close o p → Close (plus id v o) (plus id v p)
 close-plus id v o p c = record {
@@ -107,30 +103,30 @@ module _ (f : WordForm) where
   places-read k (word ∷ rest) = ap (in_place (place_from 1 f.places k) word) (places-read (suc k) rest)
 
   -- an option of no known name
-  unknown : (name : Text) (k : ℕ) (words : List Text) → named (f.needed ++ f.free) name ≡ None → uses_from f k (parts_from (value_comes name) words) ≡ None
+  unknown : (name : Text) (k : ℕ) (words : List Text) → named (options_of f) name ≡ None → uses_from f k (parts_from (value_comes name) words) ≡ None
   unfolding parts_from
   unknown name k [] e = refl
-  unknown name k (word ∷ rest) e = ap (λ o. option_use o word (uses_from f k (parts_from anything rest))) e
+  unknown name k (word ∷ rest) e = ap (λ o. in_place o word (uses_from f k (parts_from anything rest))) e
 
   module _ (k : ℕ) (rest : List Text) (same : Reads k rest)
-      (value : (id name : Text) → named (f.needed ++ f.free) name ≡ Some id → Awaits id name k rest) where
+      (value : (id name : Text) → named (options_of f) name ≡ Some id → Awaits id name k rest) where
     -- behind the name x, with its value or without
     abbrev Option-is : Text → Option Text → List CommandPart → Type 0
     Option-is x v parts = Close
         (option_read ((clap_form f).option x) v (read (clap_form f) None k rest) (λ id. read (clap_form f) (Some id) k rest)) (uses_from f k parts)
 
     with-value : (x v : Text) → Option-is x (Some v) (given (dashed x) v ∷ parts_from anything rest)
-    with-value x v = go (named (f.needed ++ f.free) (dashed x))
+    with-value x v = go (named (options_of f) (dashed x))
       where
         go : (o : Option Text) → Close (option_read o (Some v) (read (clap_form f) None k rest) (λ id. read (clap_form f) (Some id) k rest))
-            (option_use o v (uses_from f k (parts_from anything rest)))
+            (in_place o v (uses_from f k (parts_from anything rest)))
         go None = close-same None
         go (Some id) = close-plus id v _ _ same
 
     without-value : (x : Text) → Option-is x None (parts_from (value_comes (dashed x)) rest)
-    without-value x = go (named (f.needed ++ f.free) (dashed x)) refl
+    without-value x = go (named (options_of f) (dashed x)) refl
       where
-        go : (o : Option Text) → named (f.needed ++ f.free) (dashed x) ≡ o
+        go : (o : Option Text) → named (options_of f) (dashed x) ≡ o
             → Close (option_read o None (read (clap_form f) None k rest) (λ id. read (clap_form f) (Some id) k rest))
             (uses_from f k (parts_from (value_comes (dashed x)) rest))
         go None e = subst (Close None) (sym (unknown (dashed x) k rest e)) (close-same None)
@@ -155,7 +151,7 @@ module _ (f : WordForm) where
             rw (e, at, whole-name xs e) (without-value xs)
 
   module _ (k : ℕ) (rest : List Text) (same : Reads k rest) (next : Reads (suc k) rest)
-      (value : (id name : Text) → named (f.needed ++ f.free) name ≡ Some id → Awaits id name k rest) where
+      (value : (id name : Text) → named (options_of f) name ≡ Some id → Awaits id name k rest) where
     placed : (word : Text) → Close (in_place (place_from 1 f.places k) word (read (clap_form f) None (suc k) rest))
         (in_place (place_from 1 f.places k) word (uses_from f (suc k) (parts_from anything rest)))
     placed word = close-place (place_from 1 f.places k) word _ _ next
@@ -184,11 +180,11 @@ module _ (f : WordForm) where
             subst (λ x. Reads k ((x ∷ b ∷ bytes) ∷ rest)) (sym (eqb-true a 45 e))
             (subst (λ x. Reads k ((45 ∷ x ∷ bytes) ∷ rest)) (sym (eqb-true b 45 h)) (two-dashes bytes))
 
-  value-step : (id name : Text) (k : ℕ) (word : Text) (rest : List Text) → named (f.needed ++ f.free) name ≡ Some id → Reads k rest
+  value-step : (id name : Text) (k : ℕ) (word : Text) (rest : List Text) → named (options_of f) name ≡ Some id → Reads k rest
       → Awaits id name k (word ∷ rest)
   unfolding read parts_from
   value-step id name k word rest e same =
-      subst (λ o. Close (read (clap_form f) (Some id) k (word ∷ rest)) (option_use o word (uses_from f k (parts_from anything rest)))) (sym e)
+      subst (λ o. Close (read (clap_form f) (Some id) k (word ∷ rest)) (in_place o word (uses_from f k (parts_from anything rest)))) (sym e)
       (go (clap_flag word) refl)
     where
       go : (b : Bool) → clap_flag word ≡ b
@@ -204,6 +200,6 @@ module _ (f : WordForm) where
     words-close k (word ∷ rest) =
         word-step k rest (words-close k rest) (words-close (suc k) rest) (λ id name e. value-close id name k rest e) word
 
-    pub value-close : (id name : Text) (k : ℕ) (words : List Text) → named (f.needed ++ f.free) name ≡ Some id → Awaits id name k words
+    pub value-close : (id name : Text) (k : ℕ) (words : List Text) → named (options_of f) name ≡ Some id → Awaits id name k words
     value-close id name k [] e = close-same None
     value-close id name k (word ∷ rest) e = value-step id name k word rest e (words-close k rest)

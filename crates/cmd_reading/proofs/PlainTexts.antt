@@ -1,10 +1,11 @@
 -- Names of files and numbers are plain texts, and a command that is asked for by such texts can be meant.
-use Rattle.std.proofs.Common.{◌≡◌, ◌<◌, ◌+◌, ◌-◌, ◌*◌, ℕ, Bool, true, false, refl, sym, List, [], ◌∷◌, length, Option, Some, None, arith}
-use Rattle.std.specs.Prelude.{not, nat_le, ◌&&◌, ◌==◌, IfSome, option_and_then, option_map, if◌then◌else◌}
+use Rattle.std.proofs.Common.{◌≡◌, ◌<◌, ◌+◌, ◌-◌, ◌*◌, ℕ, true, false, refl, List, [], ◌∷◌, length, Option, Some, None, arith, inl, inr}
+use Rattle.std.specs.Prelude.{not, nat_le, ◌&&◌, ◌==◌, IfSome, option_and_then, option_map}
 use Rattle.std.specs.Char.{is_ascii_digit}
 use Rattle.std.specs.List.{list_all}
 use Rattle.std.specs.Str.{IsAscii}
-use Rattle.std.proofs.lemmas.Bool.{and_parts}
+use Rattle.std.proofs.lemmas.Bool.{and_parts, cases_Bool, not-true}
+use Rattle.std.proofs.lemmas.Option.{none-some, option_and_then_some}
 use Rattle.std.proofs.lemmas.Bool.Decides.{nat_tests}
 use Rattle.std.proofs.lemmas.Str.{IsUtf8-from_ascii}
 use Rattle.std.proofs.lemmas.Str.Ascii.{IsAscii-cons, IsAscii-nil}
@@ -20,9 +21,6 @@ use Rattle.cmd_reading.specs.Meaning.{IsThere}
 abbrev Text : Type 0
 Text = List ℕ
 
-none-some : {A : Type 0} (a : A) → None ≡ Some a → ⊥
-none-some a e = cc
-
 no-flag : (word : Text) → begins_with_dash word ≡ false → is_flag word ≡ false
 no-flag [] e = refl
 no-flag (a ∷ []) e = refl
@@ -31,20 +29,15 @@ no-flag (a ∷ b ∷ bytes) e = e
 -- ---- names
 
 pub plain_name : (word name : Text) → file_name_of word ≡ Some name → IsPlain word
-plain_name word name e = go (is_file_name word) refl e
-  where
-    undashed : (b : Bool) → not b ≡ true → b ≡ false
-    undashed true q = sym q
-    undashed false q = refl
-
-    go : (b : Bool) → is_file_name word ≡ b → (if b then Some word else None) ≡ Some name → IsPlain word
-    go true is q =
-        let front = and_parts (nat_le 1 (length word) && nat_le (length word) most_name_bytes && list_all is_name_byte word) (not (begins_with_dash word)) is in
-        record {
-          utf8 = name_is_text word (and_parts (nat_le 1 (length word) && nat_le (length word) most_name_bytes) (list_all is_name_byte word) front.0).1;
-          apart = no-flag word (undashed _ front.1);
-        }
-    go false is q = absurd (none-some name q)
+plain_name word name e = elim (cases_Bool (is_file_name word)) [
+  | inl is ↦
+      let front = and_parts (nat_le 1 (length word) && nat_le (length word) most_name_bytes && list_all is_name_byte word) (not (begins_with_dash word)) is in
+      record {
+        utf8 = name_is_text word (and_parts (nat_le 1 (length word) && nat_le (length word) most_name_bytes) (list_all is_name_byte word) front.0).1;
+        apart = no-flag word (not-true _ front.1);
+      }
+  | inr other ↦ absurd (none-some name (rw other at e))
+]
 
 -- ---- numbers
 
@@ -57,38 +50,26 @@ digit-apart c h = grind (arith, nat_tests)
 digits-ascii : (n : ℕ) (text : Text) (m : ℕ) → decimal_number n text ≡ Some m → IsAscii text
 unfolding decimal_number
 digits-ascii n [] m e = IsAscii-nil
-digits-ascii n (c ∷ cs) m e = go (is_ascii_digit c) refl e (digits-ascii (10 * n + (c - 48)) cs m)
-  where
-    go : (b : Bool) → is_ascii_digit c ≡ b → (if b then decimal_number (10 * n + (c - 48)) cs else None) ≡ Some m
-        → (decimal_number (10 * n + (c - 48)) cs ≡ Some m → IsAscii cs) → IsAscii (c ∷ cs)
-    go true d q rest = IsAscii-cons c cs (digit-ascii c d) (rest q)
-    go false d q rest = absurd (none-some m q)
+digits-ascii n (c ∷ cs) m e = elim (cases_Bool (is_ascii_digit c)) [
+  | inl d ↦ IsAscii-cons c cs (digit-ascii c d) (digits-ascii (10 * n + (c - 48)) cs m (rw d at e))
+  | inr d ↦ absurd (none-some m (rw d at e))
+]
 
 digits-apart : (n : ℕ) (text : Text) (m : ℕ) → decimal_number n text ≡ Some m → begins_with_dash text ≡ false
 unfolding decimal_number
 digits-apart n [] m e = refl
-digits-apart n (c ∷ cs) m e = go (is_ascii_digit c) refl e
-  where
-    go : (b : Bool) → is_ascii_digit c ≡ b → (if b then decimal_number (10 * n + (c - 48)) cs else None) ≡ Some m → (c == 45) ≡ false
-    go true d q = digit-apart c d
-    go false d q = absurd (none-some m q)
-
-was-some : {A B : Type 0} (f : A → Option B) (o : Option A) (b : B) → option_and_then f o ≡ Some b → (a : A) × (o ≡ Some a)
-was-some f None b e = absurd (none-some b e)
-was-some f (Some a) b e = (a, refl)
+digits-apart n (c ∷ cs) m e = elim (cases_Bool (is_ascii_digit c)) [ inl d ↦ digit-apart c d | inr d ↦ absurd (none-some m (rw d at e)) ]
 
 element-digits : (word : Text) (n : ℕ) → element_of word ≡ Some n → (m : ℕ) × (decimal_number 0 word ≡ Some m)
 unfolding element_of
-element-digits word n e = go (is_without_leading_zero word) e
-  where
-    go : (b : Bool) → (if b then option_and_then element_from (decimal_number 0 word) else None) ≡ Some n → (m : ℕ) × (decimal_number 0 word ≡ Some m)
-    go true q = was-some element_from (decimal_number 0 word) n q
-    go false q = absurd (none-some n q)
+element-digits word n e = elim (cases_Bool (is_without_leading_zero word)) [
+  | inl d ↦ option_and_then_some element_from (decimal_number 0 word) n (rw d at e) (λ m is of. (m, is))
+  | inr d ↦ absurd (none-some n (rw d at e))
+]
 
 pub plain_number : (least most : ℕ) (word : Text) (n : ℕ) → number_of_word least most word ≡ Some n → IsPlain word
 plain_number least most word n e =
-    let element = was-some (within least most) (element_of word) n e in
-    let digits = element-digits word element.0 element.1 in
+    let digits = option_and_then_some (within least most) (element_of word) n e (λ k is of. element-digits word k is) in
     record {
       utf8 = IsUtf8-from_ascii word (digits-ascii 0 word digits.0 digits.1);
       apart = no-flag word (digits-apart 0 word digits.0 digits.1);

@@ -1,5 +1,5 @@
 -- How the steps of `runs` go on and end, read after read.
-use Rattle.std.proofs.Common.{◌≡◌, ℕ, ◌+◌, ◌≤◌, Bool, true, false, not, ◌&&◌, nat_lt, if◌then◌else◌, List, [], ◌∷◌, drop, length, length-drop, map, Bor, ◌-◌, ◌<◌, arith, Option, Some, None, unwrap_or, Result, Ok, Err, refl, sym, ap, subst, ◌∙◌}
+use Rattle.std.proofs.Common.{◌≡◌, ℕ, ◌+◌, ◌≤◌, Bool, true, false, not, ◌&&◌, nat_lt, if◌then◌else◌, List, [], ◌∷◌, drop, length, length-drop, map, Bor, ◌-◌, ◌<◌, arith, Option, Some, None, unwrap_or, Result, Ok, Err, refl, sym, subst, ◌∙◌}
 use Rattle.std.proofs.lemmas.List.{drop_all, length-map}
 use Rattle.std.proofs.lemmas.Bool.Decides.{nat_tests}
 use Rattle.std.specs.Option.{option_copied, option_map}
@@ -79,11 +79,6 @@ module _ (constants : List ℕ) (before : ℕ) (left : Option (List ℕ)) (link 
     from_inputs next end new ends =
         source_says (with_source next) end new (inputs_say (given_steps link.inputs left (running next source)) end new ends)
 
-    pub ends_at_stack : (end : Outcome)
-        → ((s : ShelfState) (next : Given → Steps) → EndsIn (Some (given_steps link.inputs left next given)) end s s)
-        → EndsThere (run_link_steps constants before left link) end old third
-    ends_at_stack end ends next = from_inputs next end third (ends third (running next source))
-
     module _ (begin : Given)
         (begins : (s : ShelfState) (next : Given → Steps) → Continues (given_steps link.inputs left next given) (next begin) s s) where
       pub ends_running : (end : Outcome) (new : ShelfState)
@@ -97,10 +92,6 @@ module _ (constants : List ℕ) (before : ℕ) (left : Option (List ℕ)) (link 
       goes_running outputs new goes next end last rest =
           from_inputs next end last (begins third (running next source) end last (goes next end last rest))
 
--- what a run begins with
-pub own_stack : (name : List ℕ) (given : Given) (s : ShelfState) (next : Given → Steps) → Continues (given_steps name None next given) (next given) s s
-own_stack name given s next end new rest = rest
-
 module _ (name : List ℕ) (cells : List ℕ) (given : Given) where
   abbrev begin : Given
   begin = record { stack = cells; advice = given.advice }
@@ -108,11 +99,6 @@ module _ (name : List ℕ) (cells : List ℕ) (given : Given) where
   some_cells : (xs : List ℕ) → (xs ≡ [] → ⊥) → has_no_cells xs ≡ false
   some_cells [] other = absurd (other refl)
   some_cells (x ∷ xs) other = refl
-
-  pub left_stack : given.stack ≡ [] → (s : ShelfState) (next : Given → Steps)
-      → Continues (given_steps name (Some cells) next given) (next begin) s s
-  left_stack none s next end new rest =
-      subst (λ b. EndsIn (Some (if b then next begin else ending (bad_inputs name Count))) end s new) (sym (ap has_no_cells none)) rest
 
   pub two_stacks : (given.stack ≡ [] → ⊥) → (end : Outcome) → SaysStatus end status.Malformed (malformed_text_line name Count) → (s : ShelfState)
       (next : Given → Steps) → EndsIn (Some (given_steps name (Some cells) next given)) end s s
@@ -184,10 +170,6 @@ module _ (constants : List ℕ) (before : ℕ) (left : Option (List ℕ)) (link 
   from_link : (end : Outcome) (new : ShelfState) → EndsIn (Some (run_link_steps constants before left link on)) end old new
       → EndsIn (Some (runs_from constants before left all)) end old new
   from_link end new ends = subst (λ ls. EndsIn (Some (runs_from constants before left ls)) end old new) (sym first) ends
-
-  pub ends_at_link : (end : Outcome) (new : ShelfState) → EndsThere (run_link_steps constants before left link) end old new
-      → EndsIn (Some (runs_from constants before left all)) end old new
-  ends_at_link end new ends = from_link end new (ends on)
 
   chosen : (b c : Bool) (x y : Steps) (end : Outcome) (s new : ShelfState) → b ≡ c → EndsIn (Some (if c then x else y)) end s new
       → EndsIn (Some (if b then x else y)) end s new

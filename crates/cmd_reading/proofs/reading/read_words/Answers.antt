@@ -20,25 +20,25 @@ returns-in_err-matches-clause-usage c = λ e m.
 pub all_given-requires : goal.all_given-requires
 all_given-requires c =
     let found = c.in_ok-matches.ensures.ok in
-    let says = words-say _ c.requires.names _ (found_of c.in_ok-matches.matches) c.requires.text found.0 found.1 in
+    let says = words-say _ c.requires.names _ c.requires.text (found_of c.in_ok-matches.matches) found.0 found.1 in
     λ k d l. ap is_some (says.2 _) ∙ each-there c.args.places.now says.0
     (form-needs (form_of c.args.places.now c.args.needed.now c.args.free.now) (map (λ s. s.now) c.args.words.now) says.0 says.1).0 k d l
 
 pub all_given-requires-2 : goal.all_given-requires-2
 all_given-requires-2 c =
     let found = c.in_ok-matches.ensures.ok in
-    let says = words-say _ c.requires.names _ (found_of c.in_ok-matches.matches) c.requires.text found.0 found.1 in
+    let says = words-say _ c.requires.names _ c.requires.text (found_of c.in_ok-matches.matches) found.0 found.1 in
     λ k d l. ap is_some (says.2 _) ∙ each-there c.args.needed.now says.0
     (form-needs (form_of c.args.places.now c.args.needed.now c.args.free.now) (map (λ s. s.now) c.args.words.now) says.0 says.1).1 k d l
 
 pub returns-clause-ok : goal.returns-clause-ok
 returns-clause-ok c =
     let found = c.in_ok-matches.ensures.ok in
-    let says = words-say _ c.requires.names _ (found_of c.in_ok-matches.matches) c.requires.text found.0 found.1 in
+    let says = words-say _ c.requires.names _ c.requires.text (found_of c.in_ok-matches.matches) found.0 found.1 in
     let read = read-says (form_of c.args.places.now c.args.needed.now c.args.free.now) c.requires.names (map (λ s. s.now) c.args.words.now) says.0 says.1 in
     record {
       form = read.0;
-      texts = texts-same _ _ _ _ _ _
+      texts = texts-same
           (c.in_ok-all_given.ensures.ok ∙ texts-are (found_of c.in_ok-matches.matches) says.0 says.2 c.args.places.now)
           (c.in_ok-all_given-2.ensures.ok ∙ texts-are (found_of c.in_ok-matches.matches) says.0 says.2 c.args.needed.now)
           (c.in_ok-some_given.ensures.ok ∙ texts-are (found_of c.in_ok-matches.matches) says.0 says.2 c.args.free.now)
