@@ -31,10 +31,6 @@ end_length : (c : Claim) (p : Spot) → length (end_values c p) ≡ 5
 unfolding end_values
 end_length c p = refl
 
-outputs_length : (c : Claim) (p : Spot) → length (outputs_values c p) ≡ 16
-unfolding outputs_values family
-outputs_length c p = refl
-
 pub boundary_length : (c : Claim) (p : Spot) → length (boundary_values c p) ≡ 49
 unfolding boundary_values start_values inputs_values end_values outputs_values family
 boundary_length c p = refl

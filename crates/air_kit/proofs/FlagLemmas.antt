@@ -49,15 +49,6 @@ flag_by-bits (suc n) code bit low below =
     ∙ joined (code % 2) (code / 2) (bit 0) (spelled n (λ j. bit (suc j))) code (bit 0 + 2 * spelled n (λ j. bit (suc j))) q
     (low 0 (omega arith)) whole refl
 
--- so many bits spell a number below that power of 2
-pub spelled-below : (n : ℕ) (bit : ℕ → ℕ) → ((j : ℕ) → j < n → bit j < 2) → spelled n bit < 2 ^ n
-unfolding spelled
-spelled-below zero bit low = lit< tt
-spelled-below (suc n) bit low =
-    let later = spelled-below n (λ j. bit (suc j)) (λ j h. low (suc j) (omega arith)) in
-    let first = low 0 (omega arith) in
-    let e : 2 ^ suc n ≡ 2 * 2 ^ n = pow-succ' 2 n in omega (arith, e, later, first)
-
 -- each flag of a row whose bits spell an operation's code
 pub flag-hot : (row : List ℕ) (op : Op) → ((j : ℕ) → j < 7 → b row j < 2) → code_of op ≡ spelled 7 (b row) → (other : Op)
     → flag row other ≡ one_hot op other

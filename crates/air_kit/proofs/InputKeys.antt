@@ -11,10 +11,6 @@ pub input_key_high : (i : ℕ) → i < 2 ^ 20 → 2 ^ 20 ≤ input_key i
 unfolding input_key
 input_key_high i h = omega (arith, h)
 
-pub input_key_falls : (i j : ℕ) → i < j → j < 2 ^ 20 → input_key j < input_key i
-unfolding input_key
-input_key_falls i j h few = omega (arith, h, few)
-
 pub input_key_one : (i j : ℕ) → i < 2 ^ 20 → j < 2 ^ 20 → input_key i ≡ input_key j → i ≡ j
 unfolding input_key
 input_key_one i j h g e = omega (arith, h, g, e)

@@ -58,9 +58,6 @@ pub record AreGivenBelow (x y : List ℕ) (count q : ℕ) (old now : Tallied) : 
       → IsCounted (count - 1) old new [] (groups_from x y 1 (count - 1))
   pub grows : (u : List ℕ) → (now u).1 + 1 ≤ (old u).1 + q
 
-pub given_below_one : (x y : List ℕ) (count : ℕ) (t : Tallied) → AreGivenBelow x y count 1 t t
-given_below_one x y count t = record { rest = λ new p. p; grows = λ u. omega arith }
-
 -- one position more
 one_more_group : (x y : List ℕ) (q m : ℕ) (now mid new : Tallied) (t : List ℕ) → t ≡ ha y ∷ suc m ∷ h x q ∷ [] → IsCounted 1 now mid [] (once t ∷ [])
     → IsCounted m mid new [] (groups_from x y (suc q) m) → IsCounted (suc m) now new [] (groups_from x y q (suc m))

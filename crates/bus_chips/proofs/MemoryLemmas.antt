@@ -5,11 +5,10 @@ use Rattle.air_kit.specs.Places.{Claim}
 use Rattle.air_kit.specs.declared.trace.TableName.TheVariants as table
 use Rattle.buses.specs.declared.bus.Bus.{Bus}
 use Rattle.buses.specs.declared.bus.Bus.TheVariants as bus
-use Rattle.bus_kit.specs.Adding.{Tallied, IsCounted}
+use Rattle.bus_kit.specs.Adding.{IsCounted}
 use Rattle.bus_kit.specs.ByBus.{AreCounted, both_by}
 use Rattle.bus_kit.specs.Tallies.{steps_tallied, values_tallied}
 use Rattle.bus_kit.specs.Widths.{tallied}
-use Rattle.bus_kit.specs.declared.hasher.StepTally.{StepTally}
 use Rattle.bus_kit.specs.declared.tallies.Tallies.{Tallies}
 use Rattle.bus_kit.specs.declared.tally.Tally.{Tally}
 use Rattle.bus_kit.specs.declared.values.ValueTally.{ValueTally}

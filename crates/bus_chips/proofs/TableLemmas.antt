@@ -126,7 +126,3 @@ left_counted c i x next t now (Err e) p = tt
 pub as_given : {E : Type 0} (n : ℕ) (a b : Tallied) (r : Result (Unit {0}) E) (xs ys : List Counted) → xs ≡ ys
     → OnOk r (IsCounted n a b [] xs) → OnOk r (IsCounted n a b [] ys)
 as_given n a b r xs ys e p = subst (λ given. OnOk r (IsCounted n a b [] given)) e p
-
-pub as_asked : {E : Type 0} (n : ℕ) (a b : Tallied) (r : Result (Unit {0}) E) (xs ys : List Counted) → xs ≡ ys
-    → OnOk r (IsCounted n a b xs []) → OnOk r (IsCounted n a b ys [])
-as_asked n a b r xs ys e p = subst (λ asked. OnOk r (IsCounted n a b asked [])) e p

@@ -1,6 +1,5 @@
 -- From the comparison of one bus to that of all, and to the refusal of a trace.
-use Rattle.std.proofs.Common.{◌≡◌, ℕ, zero, suc, ◌<◌, ◌≤◌, Option, Some, None, refl, sym, ap, subst, ◌∙◌, inl, inr, ltb, arith, lit<}
-use Rattle.std.proofs.lemmas.Bool.{cases_Bool, ltb-true, ltb-false}
+use Rattle.std.proofs.Common.{◌≡◌, zero, ◌<◌, Option, Some, None, sym, subst, ◌∙◌, arith, lit<}
 use Rattle.air_kit.specs.Acceptance.{AreZero, IsAccepted, IsBusRefusal}
 use Rattle.air_kit.specs.Places.{Claim}
 use Rattle.air_kit.specs.Traces.{claim_of}
@@ -17,35 +16,6 @@ use Rattle.checker.specs.Refusals.{BusesAreAlikeBelow, IsApartAnswer, IsApartBel
 use Rattle.checker.specs.declared.refusal.Apart.{Apart}
 use Rattle.checker.specs.declared.refusal.Refused.{Refused}
 use Rattle.checker.specs.declared.refusal.Refused.TheVariants as refused
-
-bus_at : ℕ → Bus
-bus_at zero = bus.Blocks
-bus_at (suc zero) = bus.Blocks
-bus_at (suc (suc zero)) = bus.Children
-bus_at (suc (suc (suc zero))) = bus.Loops
-bus_at (suc (suc (suc (suc zero)))) = bus.Groups
-bus_at (suc (suc (suc (suc (suc zero))))) = bus.Overflow
-bus_at (suc (suc (suc (suc (suc (suc zero)))))) = bus.Hasher
-bus_at (suc (suc (suc (suc (suc (suc (suc zero))))))) = bus.Bitwise
-bus_at (suc (suc (suc (suc (suc (suc (suc (suc zero)))))))) = bus.Memory
-bus_at (suc (suc (suc (suc (suc (suc (suc (suc (suc zero))))))))) = bus.Range
-bus_at (suc (suc (suc (suc (suc (suc (suc (suc (suc (suc n)))))))))) = bus.Kernel
-
-at_own_number : (b : Bus) → bus_at (bus_number b) ≡ b
-unfolding bus_at
-at_own_number bus.Blocks = refl
-at_own_number bus.Children = refl
-at_own_number bus.Loops = refl
-at_own_number bus.Groups = refl
-at_own_number bus.Overflow = refl
-at_own_number bus.Hasher = refl
-at_own_number bus.Bitwise = refl
-at_own_number bus.Memory = refl
-at_own_number bus.Range = refl
-at_own_number bus.Kernel = refl
-
-same_bus : (a b : Bus) → bus_number a ≡ bus_number b → a ≡ b
-same_bus a b e = sym (at_own_number a) ∙ ap bus_at e ∙ at_own_number b
 
 bus_below : (b : Bus) → bus_number b < 11
 bus_below bus.Blocks = lit< tt
@@ -70,18 +40,6 @@ bus_some bus.Bitwise = lit< tt
 bus_some bus.Memory = lit< tt
 bus_some bus.Range = lit< tt
 bus_some bus.Kernel = lit< tt
-
--- one bus more is alike
-pub alike_next : (asked given : OnBuses) (b : Bus) → BusesAreAlikeBelow asked given (bus_number b) → AreAlike (asked b) (given b)
-    → BusesAreAlikeBelow asked given (suc (bus_number b))
-alike_next asked given b below alike other h =
-    elim (cases_Bool (ltb (bus_number other) (bus_number b))) [
-      | inl lower ↦ below other (ltb-true (bus_number other) (bus_number b) lower)
-      | inr not ↦
-          let high : bus_number b ≤ bus_number other = ltb-false (bus_number other) (bus_number b) not in
-          let P : Bus → Type 0 = λ x. AreAlike (asked x) (given x) in
-          subst P (sym (same_bus other b (omega (arith, h, high)))) alike
-    ]
 
 -- before the first bus
 pub none_before : (asked given : OnBuses) → BusesAreAlikeBelow asked given 1

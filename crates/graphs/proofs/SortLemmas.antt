@@ -73,9 +73,6 @@ rows_set-other rows new i j row is apart = ap (λ xs. get_or xs j []) is ∙ get
 
 -- settled places
 
-pub Grows-none : (s : Sorter) → Grows s s
-Grows-none s = record { more = []; seen = sym (append-nil s.walk.seen.items); waits = λ b q h. h }
-
 pub Grows-join : (s t u : Sorter) → Grows s t → Grows t u → Grows s u
 Grows-join s t u first second =
     record {
@@ -263,10 +260,6 @@ IsSorting-visit graph s t place old marks adds count passed waiting whole =
       passed_len = ap (λ v. length v.items) passed ∙ old.passed_len;
       waiting_len = ap (λ v. length v.items) waiting ∙ old.waiting_len;
     }
-
-pub Grows-visit : (s t : Sorter) (place : ℕ) → AddsPlaces s.walk.seen.items (place ∷ []) t.walk.seen.items → t.waiting ≡ s.waiting → Grows s t
-Grows-visit s t place adds waiting =
-    record { more = adds.more; seen = adds.keeps; waits = λ b q h. subst (λ v. Contains (get_or (rows_of v.items) b []) q) (sym waiting) h }
 
 -- only places are seen
 pub seen-low : (graph : List (List ℕ)) (s : Sorter) (next place : ℕ) → IsSorting graph s → next < length s.walk.seen.items

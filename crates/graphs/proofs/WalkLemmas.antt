@@ -1,9 +1,9 @@
 -- Walks over a graph: what a visit adds, and what is seen at the end.
-use Rattle.std.proofs.Common.{◌≡◌, ℕ, ◌+◌, ◌<◌, ◌≤◌, Bool, true, false, cond, List, [], ◌∷◌, ◌++◌, length, take, get_or, set, count_by, inl, inr, ◌↔◌, refl, sym, ap, subst, ◌∙◌, append_assoc, append-nil, arith}
+use Rattle.std.proofs.Common.{◌≡◌, ℕ, ◌+◌, ◌<◌, ◌≤◌, Bool, true, false, cond, List, [], ◌∷◌, ◌++◌, length, take, get_or, set, count_by, inl, inr, ◌↔◌, refl, sym, ap, subst, ◌∙◌, append_assoc, arith}
 use Rattle.std.proofs.lemmas.Bool.Decides.{eqb_tells}
 use Rattle.std.proofs.lemmas.List.{take_more, get_or-set_same, get_or-set_other, get_or_append_left, length_push, get_or_default}
 use Rattle.std.proofs.lemmas.List.Elements.{Contains-append_left, Contains-append_right, Contains-append_cases, Contains-push, Contains-push_cases, Contains-get_or}
-use Rattle.std.proofs.lemmas.List.Sums.{sum_by-set, count_by-le-length}
+use Rattle.std.proofs.lemmas.List.Sums.{sum_by-set}
 use Rattle.std.specs.List.{Contains}
 use Rattle.graphs.specs.Graph.{Edge, Leads, LeadsFrom, itself, through}
 use Rattle.graphs.specs.Walks.{AreMarks, AddsPlaces, Walked}
@@ -42,13 +42,6 @@ AreMarks-visit marks seen place are within unmarked = record { marked = λ q. (t
         let before = are.once in
         let longer = length_push seen place in
         omega arith
-
-pub AddsPlaces-none : (old : List ℕ) → AddsPlaces old [] old
-AddsPlaces-none old = record { more = []; keeps = sym (append-nil old); row_in = λ q h. absurd (omega (arith, h.1)); only = λ q h. inl h }
-
-pub AddsPlaces-seen : (old : List ℕ) (place : ℕ) → Contains old place → AddsPlaces old (place ∷ []) old
-AddsPlaces-seen old place has =
-    record { more = []; keeps = sym (append-nil old); row_in = λ q h. subst (Contains old) (contains_one place q h) has; only = λ q h. inl h }
 
 pub AddsPlaces-push : (old : List ℕ) (place : ℕ) → AddsPlaces old (place ∷ []) (old ++ place ∷ [])
 AddsPlaces-push old place =
@@ -149,10 +142,6 @@ from_one graph start place = (
   λ from. subst (λ q. Leads graph q place) (sym (contains_one start from.0 from.1)) from.2,
   λ leads. (start, Contains-push [] start, leads),
 )
-
--- there are no more places seen than marks
-pub seen-le-marks : (marks : List Bool) (seen : List ℕ) → AreMarks marks seen → length seen ≤ length marks
-seen-le-marks marks seen are = omega (arith, are.once, count_by-le-length (λ (mark : Bool). mark) marks)
 
 -- what a row of a graph has stands below the count of places
 pub within_marks : (graph : List (List ℕ)) (row : List ℕ) (place k d n : ℕ) → ((a b : ℕ) → Edge graph a b → b < length graph)

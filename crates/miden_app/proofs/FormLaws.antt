@@ -1,11 +1,11 @@
 -- What the words of a command ask for is what their texts do, and nothing where they cannot be meant.
-use Rattle.std.proofs.Common.{◌≡◌, ◌∙◌, ℕ, Bool, true, false, refl, ap, List, [], ◌∷◌, length, map, lit<, Option, Some, None}
+use Rattle.std.proofs.Common.{◌≡◌, ◌∙◌, ℕ, Bool, true, false, refl, ap, List, [], ◌∷◌, length, map, Option, Some, None}
 use Rattle.std.specs.Prelude.{IfSome, if◌then◌else◌, nat_lt, option_and_then, option_map, unwrap_or}
 use Rattle.std.specs.List.{list_all}
 use Rattle.vm_field.specs.Limits.{most_cycles}
 use Rattle.workloads.specs.Workloads.{most_turns}
 use Rattle.cmd_words.specs.Words.{file_name_of, is_form, number_of_word, optional}
-use Rattle.cmd_reading.specs.Form.{AllText, IsForm, IsPlain, dashed, options_of}
+use Rattle.cmd_reading.specs.Form.{AllText, IsPlain, dashed, options_of}
 use Rattle.cmd_reading.specs.Meaning.{AreThere, IsThere, MayBeMeant, MayStand, HasForm, texts_in}
 use Rattle.cmd_reading.proofs.AsciiNames.{ascii_text}
 use Rattle.cmd_reading.proofs.PlainParts.{meant-text}
@@ -157,16 +157,6 @@ asks_by_form name.Make words = refl
 asks_by_form name.Chain words = refl
 asks_by_form name.Runs words = refl
 asks_by_form name.Member words = refl
-
-pub is_form_named : (n : CommandName) → IsForm (form_named n)
-is_form_named name.Check = record { distinct = refl; few = lit< tt }
-is_form_named name.Hash = record { distinct = refl; few = lit< tt }
-is_form_named name.Assemble = record { distinct = refl; few = lit< tt }
-is_form_named name.Run = record { distinct = refl; few = lit< tt }
-is_form_named name.Make = record { distinct = refl; few = lit< tt }
-is_form_named name.Chain = record { distinct = refl; few = lit< tt }
-is_form_named name.Runs = record { distinct = refl; few = lit< tt }
-is_form_named name.Member = record { distinct = refl; few = lit< tt }
 
 ascii_names : (n : CommandName) → list_all (list_all (λ b. nat_lt b 128)) (options_of (form_named n)) ≡ true
 ascii_names name.Check = refl

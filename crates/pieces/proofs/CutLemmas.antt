@@ -1,5 +1,5 @@
 -- The laws of cuts.
-use Rattle.std.proofs.Common.{ℕ, ◌*◌, ◌/◌, ◌<◌, ◌≤◌, ◌^◌, arith}
+use Rattle.std.proofs.Common.{ℕ, ◌*◌, ◌/◌, ◌<◌, ◌≤◌, arith}
 use Rattle.std.proofs.lemmas.Nat.{le-div}
 use Rattle.std.proofs.Math.Nat.{div-mul-le_self, mul-div_cancel_left, zero-div, mul-le-mul_right, zero-mul}
 use Rattle.pieces.specs.Cuts.{cut_at, CutStarts, CutEnds, CutGrows}
@@ -21,7 +21,3 @@ cut_grows i j n k h some =
 
 pub cut_below : (j n k : ℕ) → j ≤ k → 0 < k → cut_at j n k ≤ n
 cut_below j n k h some = let grows = cut_grows j k n k h some in let ends = cut_ends n k some in omega (arith, grows, ends)
-
--- the product fits
-pub product_few : (j n : ℕ) → j ≤ 64 → n < 2 ^ 32 → j * n < 2 ^ 64
-product_few j n h few = let p = mul-le-mul_right n h in omega (arith, p, few)

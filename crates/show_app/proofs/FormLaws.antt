@@ -1,11 +1,11 @@
 -- What the words of a form ask for is what their texts do, and nothing where they cannot be meant.
-use Rattle.std.proofs.Common.{◌≡◌, ◌∙◌, ℕ, Bool, true, false, refl, ap, List, [], ◌∷◌, length, map, lit<, Option, Some, None}
+use Rattle.std.proofs.Common.{◌≡◌, ◌∙◌, ℕ, Bool, true, false, refl, ap, List, [], ◌∷◌, length, map, Option, Some, None}
 use Rattle.std.specs.Prelude.{IfSome, if◌then◌else◌, nat_lt, option_and_then, option_map, unwrap_or}
 use Rattle.std.specs.List.{list_all}
 use Rattle.vm_field.specs.Limits.{most_cycles}
 use Rattle.air_kit.specs.declared.trace.TableName.{TableName}
 use Rattle.cmd_words.specs.Words.{file_name_of, is_form, number_of_word, optional}
-use Rattle.cmd_reading.specs.Form.{AllText, IsForm, IsPlain, dashed, options_of}
+use Rattle.cmd_reading.specs.Form.{AllText, IsPlain, dashed, options_of}
 use Rattle.cmd_reading.specs.Meaning.{AreThere, IsThere, MayBeMeant, MayStand, HasForm, texts_in}
 use Rattle.cmd_reading.proofs.AsciiNames.{ascii_text}
 use Rattle.cmd_reading.proofs.PlainParts.{meant-text}
@@ -119,14 +119,6 @@ asks_by_form form.Explain words = refl
 asks_by_form form.Evidence words = refl
 asks_by_form form.Trace words = refl
 asks_by_form form.Why words = refl
-
-pub is_form_named : (f : Form) → IsForm (form_named f)
-is_form_named form.Run = record { distinct = refl; few = lit< tt }
-is_form_named form.Rows = record { distinct = refl; few = lit< tt }
-is_form_named form.Explain = record { distinct = refl; few = lit< tt }
-is_form_named form.Evidence = record { distinct = refl; few = lit< tt }
-is_form_named form.Trace = record { distinct = refl; few = lit< tt }
-is_form_named form.Why = record { distinct = refl; few = lit< tt }
 
 ascii_names : (f : Form) → list_all (list_all (λ b. nat_lt b 128)) (options_of (form_named f)) ≡ true
 ascii_names form.Run = refl

@@ -69,11 +69,6 @@ goes_on elements word rest words x is goes =
     behind None = refl
     behind (Some more) = ap Some (append_assoc elements (x ∷ []) more)
 
-pub stops : (elements : List ℕ) (word : List ℕ) (rest words : List (List ℕ)) → element_of word ≡ None → Goes elements (word ∷ rest) words
-    → None ≡ elements_of words
-stops elements word rest words is goes =
-    ap (λ o. joined elements (option_and_then (λ e. option_map (λ later. e ∷ later) (elements_of rest)) o)) (sym is) ∙ goes
-
 pub ends : (elements : List ℕ) (words : List (List ℕ)) → Goes elements [] words → Some elements ≡ elements_of words
 ends elements words goes = ap Some (sym (append-nil elements)) ∙ goes
 

@@ -1,7 +1,6 @@
 -- What is told of how far a run has come is what is told of its outcome.
 use Rattle.std.proofs.Common.{◌≡◌, ℕ, Bool, true, false, if◌then◌else◌, ◌++◌, ap, subst, sym, ◌∙◌}
 use Rattle.vm_field.specs.Machine.{State}
-use Rattle.vm_ops.specs.declared.cause.Cause.{Cause}
 use Rattle.rpo_hash.specs.Constants.{constants_of}
 use Rattle.rpo_hash.specs.declared.params.Params.{Params}
 use Rattle.block_tree.specs.Execution.{Outcome, Done, Trap, OutOfCycles, IsCutOff, cut_off}
@@ -29,10 +28,6 @@ IsOutOfCycles (OutOfCycles s events) = Unit {0}
 
 out_of_cycles : (o : Outcome) → IsCutOff o → IsOutOfCycles o
 out_of_cycles _ (cut_off s events) = tt
-
--- it did not trap
-pub no_trap : (o : Outcome) (clock : ℕ) (cause : Cause) → IsCutOff o → o ≡ Trap clock cause → ⊥
-no_trap o clock cause cut is = subst IsOutOfCycles is (out_of_cycles o cut)
 
 module _ (params : Params) (texts : Texts) (program : Program) (inputs : Inputs) (limit : ℕ) (p : Progress)
     (far : IsProgressOf params program inputs limit p) where

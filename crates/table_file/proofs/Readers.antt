@@ -185,13 +185,6 @@ taken_stopped old new piece is same same_part empty before taken =
     taken_so_far new (before ++ piece) empty
     (subst (HasRead new.stop new.part) all (rw (same, same_part) (stays old.stop old.part taken.done (old.carried ++ piece) is taken.read)))
 
--- the answer, where the reading has stopped
-pub answer_stopped : (r : Reader) (e : FileError) (bytes : List ℕ) → r.stop ≡ Some e → HasTaken r bytes
-    → GivesRead {A = Trace} (Err e) (trace_of bytes)
-answer_stopped r e bytes is taken =
-    let read : HasRead (Some e) r.part taken.done = subst (λ (stop : Option FileError). HasRead stop r.part taken.done) is taken.read in
-    subst (λ (bs : List ℕ). GivesRead {A = Trace} (Err e) (trace_of bs)) (sym taken.parts) (read r.carried)
-
 -- what was taken, where no head was whole
 pub carried_all : (r : Reader) (bytes : List ℕ) → r.stop ≡ None → r.part ≡ None → HasTaken r bytes → bytes ≡ r.carried
 carried_all r bytes going none taken =

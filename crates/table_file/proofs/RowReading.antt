@@ -1,6 +1,6 @@
 -- Rows of a table that are read one after the other, from bytes that stand at a place.
-use Rattle.table_file.proofs.Words.{◌≡◌, ◌⊎◌, ℕ, suc, ◌+◌, ◌-◌, ◌*◌, ◌<◌, ◌≤◌, List, [], ◌∷◌, ◌++◌, drop, take, length, Result, Ok, Err, inl, inr, refl, sym}
-use Rattle.table_file.proofs.Words.{ap, subst, ◌∙◌, arith, append_assoc, append-nil, take-add, lt-ltb, length-take-le, take-append-drop, FileError, Bad}
+use Rattle.table_file.proofs.Words.{◌≡◌, ℕ, suc, ◌+◌, ◌-◌, ◌*◌, ◌<◌, ◌≤◌, List, [], ◌∷◌, ◌++◌, drop, take, length, Ok, Err, inr, refl, sym}
+use Rattle.table_file.proofs.Words.{ap, subst, ◌∙◌, arith, append_assoc, take-add, lt-ltb, length-take-le, take-append-drop, FileError, Bad}
 use Rattle.table_file.proofs.Words.{GivesRead, behind, element_at, number_at, row_at, rows_at, ReadsRows, StandsAt}
 use Rattle.std.proofs.Math.Nat.{mul-suc}
 use Rattle.table_file.specs.declared.cause.FileCause.TheVariants as cause
@@ -9,25 +9,6 @@ use Rattle.table_file.proofs.Going.{goes_behind, parts_stop}
 use Rattle.table_file.proofs.PartReading.{stands_back, stands_front}
 
 module _ (w at : ℕ) (bytes : List ℕ) (before : ℕ) (old : List (List ℕ)) where
-  pub reads_nothing : ReadsRows w at bytes before before old old 0
-  reads_nothing = record {
-    within = omega arith;
-    place = omega arith;
-    some = inl (refl, refl);
-    rows = [];
-    table = sym (append-nil old);
-    goes = λ all stands. go all;
-  }
-    where
-      same : (r : Result (List (List ℕ)) FileError) → behind r (λ rest. Ok rest) ≡ r
-      same (Ok rows) = refl
-      same (Err e) = refl
-
-      go : (all : List ℕ) → behind (rows_at all w before (at + 0)) (λ rest. Ok rest) ≡ rows_at all w before at
-      go all =
-          let here : at + 0 ≡ at = omega arith in
-          same (rows_at all w before (at + 0)) ∙ ap (rows_at all w before) here
-
   module _ (left : ℕ) (table : List (List ℕ)) (used : ℕ) (r : ReadsRows w at bytes before left old table used) (more : 0 < left) where
     one : left ≡ suc (left - 1)
     one = omega (arith, more)
@@ -71,16 +52,6 @@ module _ (w at : ℕ) (bytes : List ℕ) (before : ℕ) (old : List (List ℕ)) 
         (sym (r.goes all (stands_front all (take used bytes) behind_used at parts))
         ∙ ap (λ (n : ℕ). behind (rows_at all w n (at + used)) (λ rest. Ok (r.rows ++ rest))) one
         ∙ ap (λ x. behind x (λ rest. Ok (r.rows ++ rest))) (parts_stop (row_at all w) (8 * w) (left - 1) (at + used) e (reads all next)))
-
-  -- no further row stands whole: one was read at least
-  pub reads_some : (left : ℕ) (table : List (List ℕ)) (used : ℕ) → ReadsRows w at bytes before left old table used → 0 < before → 8 * w ≤ length bytes
-      → (left ≤ 0) ⊎ (length bytes - used < 8 * w) → 8 * w ≤ used
-  reads_some left table used r some enough ends = go r.some ends
-    where
-      go : ((used ≡ 0) × (before ≡ left)) ⊎ (8 * w ≤ used) → (left ≤ 0) ⊎ (length bytes - used < 8 * w) → 8 * w ≤ used
-      go (inr h) end = h
-      go (inl h) (inl none) = let same = h.1 in absurd (omega (arith, same, none, some))
-      go (inl h) (inr short) = let zero = h.0 in absurd (omega (arith, zero, short, enough))
 
 -- bytes end within an element
 pub ends_within : (all : List ℕ) (at j : ℕ) → length all < at + 8 * j + 8 → element_at all (at + 8 * j) ≡ Err (Bad (at + 8 * j) cause.Ended)

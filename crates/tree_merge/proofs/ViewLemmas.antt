@@ -6,7 +6,7 @@ use mathlib.Core.Former.{Count}
 use Rattle.block_tree.specs.Trees as blocks
 use Rattle.block_tree.specs.Trees.{targets_from}
 use Rattle.tree_merge.specs.Placed as places
-use Rattle.tree_merge.specs.Placed.{PlacedTree, placed, Entry, placed_from, plain, plain_targets}
+use Rattle.tree_merge.specs.Placed.{placed, Entry, placed_from, plain, plain_targets}
 use Rattle.tree_merge.specs.Targets.{trees_in}
 use Rattle.tree_merge.specs.declared.addr_tree.AddrTree.{AddrTree, Row_of-Target, end_of-Target, more_of-Target, items-the_row-Target, items_hidden-the_row-Target-0}
 use Rattle.tree_merge.specs.declared.addr_tree.AddrTree.TheVariants.{Dyn, Dyn'}

@@ -3,8 +3,7 @@
 -- prime, and `x + (prime - 1) * y` for `felt_sub x y` (`felt_sub-as`).
 use Rattle.std.proofs.Common.{◌≡◌, ℕ, ◌+◌, ◌-◌, ◌*◌, ◌%◌, ◌<◌, ◌⊎◌, ◌≤◌, Bool, true, false, cond, nat_lt, Some, None, inl, inr, ⊎_elim, sym, refl, ap, ◌∙◌, arith, ltb-true}
 use Rattle.std.proofs.lemmas.Bool.Decides.{nat_tests}
-use Rattle.std.proofs.Math.Nat.{add-mul-mod_self_left, mod-add-mod, add-mod-mod, mod-mod, mod-eq_of_lt, zero-mul, mul-zero}
-use Rattle.std.proofs.lemmas.Nat.{mul-mod_first, mul-mod_second}
+use Rattle.std.proofs.Math.Nat.{add-mul-mod_self_left, mod-eq_of_lt, zero-mul, mul-zero}
 use Rattle.vm_field.specs.Field.{prime, element_from, felt_sub, felt_mul}
 use Rattle.vm_field.proofs.Prime.{Euclid-prime}
 
@@ -27,13 +26,6 @@ element_from-some n e h = go (nat_lt n prime) refl h
 -- numbers that differ by multiples of the prime are one modulo it
 pub same_mod : (x y k j : ℕ) → x + prime * j ≡ y + prime * k → x % prime ≡ y % prime
 same_mod x y k j e = sym (add-mul-mod_self_left x prime j) ∙ ap (λ z. z % prime) e ∙ add-mul-mod_self_left y prime k
-
--- takes away each inner remainder
-pub ruleset flat = (mul-mod_first, mul-mod_second, mod-add-mod, add-mod-mod, mod-mod)
-
--- a difference as a sum
-pub felt_sub-as : (x y : ℕ) → y < prime → felt_sub x y ≡ (x + (prime - 1) * y) % prime
-felt_sub-as x y below = omega arith
 
 -- a difference is 0 exactly where the two are one
 pub same_from_sub : (x y : ℕ) → x < prime → y < prime → felt_sub x y ≡ 0 → x ≡ y

@@ -1,9 +1,9 @@
 -- The table of codes, both ways.
-use Rattle.std.proofs.Common.{◌≡◌, ℕ, zero, suc, ◌+◌, ◌<◌, ◌≤◌, ◌==◌, ◌&&◌, ◌||◌, nat_lt, nat_le, Bool, true, false, List, [], ◌∷◌, Some, None, length, refl, ap, sym, ◌∙◌, arith, lit<, ◌↔◌, inl, inr, add-zero}
+use Rattle.std.proofs.Common.{◌≡◌, ℕ, zero, suc, ◌+◌, ◌<◌, ◌≤◌, ◌==◌, ◌&&◌, nat_lt, Bool, true, false, List, [], ◌∷◌, Some, None, length, refl, ap, sym, ◌∙◌, arith, lit<, ◌↔◌, inl, inr, add-zero}
 use Rattle.std.proofs.lemmas.Bool.{eqb-true, and_parts}
 use Rattle.std.specs.List.{slice_get}
 use Rattle.std.proofs.lemmas.Option.{slice_get_past, slice_get_cases}
-use Rattle.vm_ops.specs.Codes.{code_of, is_ordinary_kind, is_ordinary_op, is_start_kind, is_start_op, op_at, every_op}
+use Rattle.vm_ops.specs.Codes.{code_of, is_ordinary_kind, is_ordinary_op, is_start_kind, op_at, every_op}
 use Rattle.vm_ops.specs.declared.kind.Kind.{Kind}
 use Rattle.vm_ops.specs.declared.kind.Kind.TheVariants as kinds
 use Rattle.vm_ops.specs.declared.op.Op.{Op}
@@ -44,11 +44,6 @@ ordinary-kind kinds.Halt is = cc
 -- what is ordinary starts no block
 pub ordinary-starts-none : (kind : Kind) → is_ordinary_kind kind ≡ true → is_start_kind kind ≡ false
 ordinary-starts-none kind is = rw (ordinary-kind kind is) refl
-
--- those of the starts follow them, but for the last one
-pub start-between : (op : Op) → is_start_op op ≡ (nat_le 70 (code_of op) && nat_lt (code_of op) 76) || (code_of op == 80)
-start-between Noop = refl
-start-between _ = refl
 
 -- the codes of a list count up from n
 abbrev numbered : List Op → ℕ → Bool

@@ -1,4 +1,4 @@
-use Rattle.std.proofs.Common.{refl, arith}
+use Rattle.std.proofs.Common.{refl}
 use Rattle.pieces.specs.Cuts.{cut_at}
 use Rattle.pieces.proofs.CutLemmas.{cut_below}
 use Rattle.pieces.proofs.cut.Goals as goal

@@ -1,6 +1,5 @@
 -- By how much the counts grow at the row.
-use Rattle.std.proofs.Common.{◌≡◌, ◌-◌, arith}
-use Rattle.checker.specs.RowCounts.{row_asks, row_gives}
+use Rattle.std.proofs.Common.{◌-◌, arith}
 use Rattle.checker.specs.Settings.{claim_in}
 use Rattle.checker.proofs.RowCountLemmas.{asked_grows, given_grows, row_count_is}
 use Rattle.checker.proofs.row_counts.count_in_row.Goals as goal

@@ -1,7 +1,7 @@
 use Rattle.std.proofs.Common.{◌≡◌, ℕ, rules, sym, subst}
 use Rattle.std.specs.FinMap.{empty}
 use Rattle.vm_field.proofs.Places.{words-empty}
-use Rattle.vm_field.specs.Machine.{IsWord, WordMap, place_cmp, word_at}
+use Rattle.vm_field.specs.Machine.{IsWord, WordMap, word_at}
 use Rattle.vm_state.specs.Memory.{words_of}
 use Rattle.vm_state.proofs.memory.WordMemory.new.Goals as goal
 
