@@ -42,6 +42,8 @@ static MAIN: [Other; 30] = [
 pub enum Content {
     /// The table file of `begin end` under constants that are all 0, with other elements in these places, as long as so many bytes.
     Table(&'static [Other], usize),
+    /// That file with so many rows more at the front of its range table, each of which gives 0 once.
+    RangeRows(u64),
     /// So many lines `0`.
     Zeros(usize),
     /// This text.
@@ -51,20 +53,32 @@ pub enum Content {
 /// The bytes of a file.
 pub fn bytes_of(alloc: Global, content: &Content) -> Result<Vec<u8>, Memory> {
     match content {
-        Content::Table(others, size) => table(alloc, others, *size),
+        Content::Table(others, size) => table(alloc, others, 0, *size),
+        Content::RangeRows(count) => table(alloc, &[], *count, usize::MAX),
         Content::Zeros(count) => zeros(alloc, *count),
         Content::Text(text) => Ok(Vec::from_slice(alloc, text.as_bytes())?),
     }
 }
 
-// Four rows of the main table, 42 of the range table and a permutation of zeros.
-fn table(alloc: Global, others: &[Other], size: usize) -> Result<Vec<u8>, Memory> {
+// Four rows of the main table, 42 of the range table behind so many that give 0, and a permutation of zeros.
+fn table(
+    alloc: Global,
+    others: &[Other],
+    giving_zero: u64,
+    size: usize,
+) -> Result<Vec<u8>, Memory> {
     let mut bytes = Vec::from_slice(alloc, b"MDTB")?;
-    for count in [2, 4, 42, 8, 0, 0, 0, 0] {
+    for count in [2, 4, giving_zero.saturating_add(42), 8, 0, 0, 0, 0] {
         push_number(&mut bytes, count, 4)?;
     }
     let mut range = 0u64;
     for place in 0..464usize {
+        if place == 260 {
+            for _ in 0..giving_zero {
+                push_number(&mut bytes, 1, 8)?;
+                push_number(&mut bytes, 0, 8)?;
+            }
+        }
         let value = if place < 260 {
             found(&MAIN, place).unwrap_or(0)
         } else {

@@ -14,7 +14,7 @@ const OTHER_OUTPUTS: &str =
 const OTHER_DIGEST: &str =
     r#"{"digest":"0000000000000000000000000000000000000000000000000000000000000001","inputs":[],"kernel":[],"outputs":[0,0,0,0,0,0,0,0,0,0,0,0,0,0,0,0]}"#;
 
-static ROWS: [Row; 7] = [
+static ROWS: [Row; 8] = [
     Row {
         words: &["explain", "z", "t", "s"],
         files: &[
@@ -71,6 +71,36 @@ static ROWS: [Row; 7] = [
             main row 0 asks 1\n\
             range row 7 gives 2\n\
             rows asking 1 giving 1\n",
+    },
+    // Twenty rows give 0, which no row asks, and sixteen of them are told.
+    Row {
+        words: &["explain", "z", "t", "s"],
+        files: &[
+            ("z", Content::Zeros(168)),
+            ("t", Content::RangeRows(20)),
+            ("s", Content::Text(STATEMENT)),
+        ],
+        failing_call: 0,
+        number: 1,
+        printed: "refused bus range tuple 0 asked 0 given 20\n\
+            tuple v=0\n\
+            range row 0 gives 1\n\
+            range row 1 gives 1\n\
+            range row 2 gives 1\n\
+            range row 3 gives 1\n\
+            range row 4 gives 1\n\
+            range row 5 gives 1\n\
+            range row 6 gives 1\n\
+            range row 7 gives 1\n\
+            range row 8 gives 1\n\
+            range row 9 gives 1\n\
+            range row 10 gives 1\n\
+            range row 11 gives 1\n\
+            range row 12 gives 1\n\
+            range row 13 gives 1\n\
+            range row 14 gives 1\n\
+            range row 15 gives 1\n\
+            rows asking 0 giving 20\n",
     },
     // The statement names another digest than the END of the program, which is not given.
     Row {
