@@ -32,7 +32,7 @@ import schema
 import words
 
 ROOT = Path(__file__).resolve().parent.parent
-# What the pages call `./miden`, and what they make a link to.
+# What the pages call `./miden` and `./miden_show`.
 MIDEN, SHOW = ROOT / "crates/miden_cli/out/miden_cli", ROOT / "crates/miden_show/out/miden_show"
 CRATES, README, MAP, CLAUSES = "crates.txt", "README.md", "docs/ARCHITECTURE.md", "docs/CLAUSES.md"
 # The pages whose commands are run.
@@ -40,6 +40,8 @@ RUN_PAGES = (README, "docs/GUIDE.md", "docs/SHOW.md", "docs/TUTORIAL-ASSEMBLERS.
 
 CELL_END = re.compile(r"(?<!\\)\|")
 NAMED_PATH = re.compile(r"(?<![\w./-])(?:crates|docs|examples|bench|reference)/[\w./*-]*")
+# A file of a crate, as the map names it: `crate/file.rt` stands in the crate's folder src/.
+CRATE_FILE = re.compile(r"(?<![\w./-])(\w+)/((?:proofs|specs)/[\w/+-]+\.antt|\w[\w/]*\.rt)\b")
 # In a path: parts that stand for others, and the folders that builds leave.
 NOT_MEANT = re.compile(r"\.\.|(?:^|/)(?:[A-Z_]+|out|target)(?:/|$)")
 LINK_TARGET = re.compile(r"\]\((?![a-z]+:|#)([^()\s#]+)(?:#[^()\s]*)?\)")
@@ -141,6 +143,10 @@ def path_findings(page: str) -> Iterator[str]:
         for path in (found.rstrip("./*") for found in NAMED_PATH.findall(line)):
             if not NOT_MEANT.search(path) and not any(ROOT.glob(path)):
                 yield at(page, number, f"there is no {path}")
+        for crate, file in CRATE_FILE.findall(line):
+            folder = ROOT / "crates" / crate
+            if folder.is_dir() and not any(path.exists() for path in (folder / file, folder / "src" / file)):
+                yield at(page, number, f"there is no {crate}/{file}")
         for target in LINK_TARGET.findall(line):
             if not (ROOT / page).parent.joinpath(target).exists():
                 yield at(page, number, f"a link leads nowhere: {target}")
@@ -212,7 +218,8 @@ def command_findings(page: str, commands: list[Command]) -> Iterator[str]:
         shutil.copytree(ROOT / "examples", Path(folder, "examples"))
         for name in ("bench", "crates", "docs", "reference"):
             Path(folder, name).symlink_to(ROOT / name)
-        Path(folder, "miden").symlink_to(MIDEN)
+        for program in (MIDEN, SHOW):
+            Path(folder, program.name.removesuffix("_cli")).symlink_to(program)
         for said, command in zip(answers(commands, folder), commands):
             if said is None:
                 yield at(page, command.line, f"`{command.text}` {NO_END}")

@@ -100,7 +100,7 @@ fn time(
         return Ok(());
     };
     let executing = lap(rt, &mut start)?;
-    let Ok((trace, end)) = trace_of_run(alloc, params, &program, run) else {
+    let Ok((trace, end)) = trace_of_run(threads, alloc, params, &program, run, 1, &OpenGate) else {
         println!(rt; "no tables")?;
         return Ok(());
     };
