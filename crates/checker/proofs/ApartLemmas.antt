@@ -1,5 +1,5 @@
 -- From the comparison of one bus to that of all, and to the refusal of a trace.
-use Rattle.std.proofs.Common.{◌≡◌, zero, ◌<◌, Option, Some, None, sym, subst, ◌∙◌, arith, lit<}
+use Rattle.std.proofs.Common.{◌≡◌, ◌<◌, Option, Some, None, sym, subst, ◌∙◌, arith, lit<}
 use Rattle.air_kit.specs.Acceptance.{AreZero, IsAccepted, IsBusRefusal}
 use Rattle.air_kit.specs.Places.{Claim}
 use Rattle.air_kit.specs.Traces.{claim_of}

@@ -5,3 +5,5 @@ pub mod CountLemmas
 pub mod CountingLemmas
 pub mod ApartLemmas
 pub mod RowCountLemmas
+pub mod GivenLemmas
+pub mod FaultRowLemmas

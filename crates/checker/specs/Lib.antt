@@ -4,3 +4,4 @@ pub mod Answers
 pub mod Counting
 pub mod Refusals
 pub mod RowCounts
+pub mod FaultRows

@@ -1,4 +1,5 @@
 use crate::checking::Valid;
+use crate::fault_rows::FaultRows;
 use crate::refusal::Refused;
 use crate::row_counts::RowCounts;
 
@@ -9,4 +10,5 @@ pub fn types_cross() {
     crosses::<Valid>();
     crosses::<Refused>();
     crosses::<RowCounts>();
+    crosses::<FaultRows>();
 }

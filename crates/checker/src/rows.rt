@@ -126,8 +126,8 @@ fn table_fault(trace: &Trace, setting: &Setting<'_>, part: Part, name: TableName
     None
 }
 
-// The first fault of a row.
-fn row_fault(
+/// The first fault of a row: the number and the value of its first entry that is not 0.
+pub(crate) fn row_fault(
     trace: &Trace,
     setting: &Setting<'_>,
     name: TableName,
