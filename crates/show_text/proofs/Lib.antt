@@ -1,3 +1,4 @@
+pub mod FewTold
 pub mod Lines
 pub mod Spelling
 pub mod Told

@@ -1,21 +1,39 @@
 -- What a refusal speaks of (docs/SHOW.md).
-use Rattle.std.specs.Prelude.{ℕ, ◌+◌, min, List, [], ◌∷◌, ◌++◌, length, codes, decimal, slice_index, slice_index_or}
+use Rattle.std.specs.Prelude.{ℕ, ◌+◌, ◌-◌, ◌/◌, nat_lt, if◌then◌else◌, min, Option, Some, None, List, [], ◌∷◌, ◌++◌, length, codes, decimal, slice_index, slice_index_or}
 use Rattle.std.specs.List.{flat_map, range_with_len}
+use Rattle.vm_field.specs.Field.{prime}
 use Rattle.air_kit.specs.declared.fault.Fault.{Fault}
 use Rattle.air_kit.specs.declared.trace.TableName.{TableName}
 use Rattle.air_kit.specs.declared.trace.Trace.{Trace}
 use Rattle.buses.specs.declared.bus.Bus.{Bus}
 use Rattle.buses.specs.declared.bus.Bus.TheVariants as bus
+use Rattle.show_text.specs.Parts.{Part, part_in, part_text, parts_of}
 use Rattle.show_text.specs.RowText.{rows_text}
+use Rattle.show_text.specs.Sides.{side_of, side_text}
+use Rattle.show_text.specs.declared.sides.Side.{Side}
 use Rattle.show_text.specs.Words.{words_of}
 
 -- a constraint in words
 abbrev pub constraint_line : TableName → ℕ → List ℕ
 constraint_line name number = codes "constraint " ++ words_of name number ++ codes "\n"
 
--- the constraint of a fault, and the cells that are not 0 of its row and of the next one
+-- a value above half of all elements, as a negative number
+abbrev pub value_line : ℕ → List ℕ
+value_line value =
+    if nat_lt ((prime - 1) / 2) value then codes "value " ++ decimal value ++ codes " is -" ++ decimal (prime - value) ++ codes "\n" else []
+
+-- the side of a constraint, or else the part of its words that is meant
+abbrev pub here_line : Fault → Option Side → Option Part → List ℕ
+here_line fault (Some side) part = codes "here " ++ side_text fault side ++ codes "\n"
+here_line fault None (Some part) = codes "here " ++ part_text fault.number part ++ codes "\n"
+here_line fault None None = []
+
+-- the value of a fault, its constraint with the cell or the part that is meant, and the cells that are not 0 of its row and of the next one
 abbrev pub fault_text : Trace → Fault → List ℕ
-fault_text trace fault = constraint_line fault.table fault.number ++ rows_text trace fault.table fault.row (fault.row + 1)
+fault_text trace fault =
+    value_line fault.value ++ constraint_line fault.table fault.number
+    ++ here_line fault (side_of trace fault) (part_in fault.number (parts_of fault.table))
+    ++ rows_text trace fault.table fault.row (fault.row + 1)
 
 -- the fields of a bus's tuples, in their order (docs/CONSTRAINTS.md, "Buses")
 abbrev pub fields_of : Bus → List (List ℕ)

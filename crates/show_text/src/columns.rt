@@ -1,5 +1,5 @@
 //! The columns of each table by name (docs/CONSTRAINTS.md, "Columns").
-ghost use Rattle.std.specs.Prelude.{◌≡◌, length, map};
+ghost use Rattle.std.specs.Prelude.{◌≡◌, [], length, map, slice_index_or};
 ghost use Rattle.air_kit.specs.Tables.{columns as width};
 ghost use Rattle.show_text.specs.Columns.{columns_of};
 
@@ -31,6 +31,16 @@ const MEMORY: [&str; 14] = [
 const KERNEL: [&str; 5] = ["d0", "d1", "d2", "d3", "count"];
 
 const LEFT: [&str; 1] = ["key"];
+
+/// The name of a column of a table; empty where there is none.
+pub(crate) fn column_name(table: TableName, column: usize) -> &'static str
+    ensures { result.now ≡ slice_index_or (columns_of table) column [] }
+{
+    match column_names(table).get(column) {
+        Some(name) => name,
+        None => "",
+    }
+}
 
 /// The names of a table's columns, in the order in which they lie in a row.
 pub fn column_names(table: TableName) -> &'static [&'static str]

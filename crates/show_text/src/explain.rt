@@ -1,8 +1,12 @@
 //! What a refusal speaks of: the row of a fault with its constraint in words, and a tuple by its fields.
-ghost use Rattle.std.specs.Prelude.{◌≡◌, ◌++◌, map, OnOk};
-ghost use Rattle.show_text.specs.ExplainText.{constraint_line, fault_text, field_text, fields_of, fields_text, tuple_text};
+ghost use Rattle.std.specs.Prelude.{◌≡◌, ◌++◌, codes, map, OnOk};
+ghost use Rattle.show_text.specs.ExplainText.{constraint_line, fault_text, field_text, fields_of, fields_text, here_line, tuple_text, value_line};
+ghost use Rattle.show_text.specs.Parts.{part_as_said, part_in, part_text, parts_of};
+ghost use Rattle.show_text.specs.Sides.{side_of, side_text};
 
+use crate::parts::{Part, append_part, part_of};
 use crate::rows::append_rows;
+use crate::sides::{Side, append_side, side_of};
 use crate::words::words_of;
 use air_kit::{Fault, TableName, Trace};
 use buses::Bus;
@@ -33,7 +37,11 @@ const RANGE: [&str; 1] = ["v"];
 
 const KERNEL: [&str; 4] = ["d0", "d1", "d2", "d3"];
 
-/// Adds the constraint of a fault in words, and the cells that are not 0 of its row and of the next one.
+// Half of all elements but 0: a value above it is shown as a negative number, too.
+const HALF: u64 = 9223372034707292160;
+
+/// Adds what is known of a fault: its value as a negative number where it is large, its constraint in words with the cell that is
+/// wrong or the part that is meant, and the cells that are not 0 of its row and of the next one.
 ///
 /// # Errors
 ///
@@ -41,9 +49,54 @@ const KERNEL: [&str; 4] = ["d0", "d1", "d2", "d3"];
 pub fn append_fault(text: &mut Bytes, trace: &Trace, fault: &Fault) -> Result<(), Memory>
     ensures { OnOk result (text.new ≡ text.old ++ fault_text trace.now fault.now) }
 {
+    append_value(text, fault.value)?;
     append_constraint(text, fault.table, fault.number)?;
+    append_here(text, trace, fault)?;
     let row = fault.row as usize;
     append_rows(text, trace, fault.table, row, row + 1)
+}
+
+// The value as a negative number, where it is large.
+fn append_value(text: &mut Bytes, value: Felt) -> Result<(), Memory>
+    ensures { OnOk result (text.new ≡ text.old ++ value_line value) }
+{
+    if value.value() <= HALF {
+        return Ok(());
+    }
+    text.append(b"value ")?;
+    append_number(text, value.value())?;
+    text.append(b" is -")?;
+    append_number(text, (-value).value())?;
+    text.append(b"\n")
+}
+
+// The side of the constraint, or else the part of its words that is meant.
+fn append_here(text: &mut Bytes, trace: &Trace, fault: &Fault) -> Result<(), Memory>
+    ensures { OnOk result (text.new ≡ text.old ++ here_line fault.now (side_of trace.now fault.now) (part_in fault.now.number (parts_of fault.now.table))) }
+{
+    match side_of(trace, fault) {
+        Some(side) => append_side_line(text, fault, &side),
+        None => match part_of(fault.table, fault.number) {
+            Some(part) => append_part_line(text, fault.number, &part),
+            None => Ok(()),
+        },
+    }
+}
+
+fn append_side_line(text: &mut Bytes, fault: &Fault, side: &Side) -> Result<(), Memory>
+    ensures { OnOk result (text.new ≡ text.old ++ (codes "here " ++ side_text fault.now side.now ++ codes "\n")) }
+{
+    text.append(b"here ")?;
+    append_side(text, fault, side)?;
+    text.append(b"\n")
+}
+
+fn append_part_line(text: &mut Bytes, number: u16, part: &Part) -> Result<(), Memory>
+    ensures { OnOk result (text.new ≡ text.old ++ (codes "here " ++ part_text number (part_as_said part.now) ++ codes "\n")) }
+{
+    text.append(b"here ")?;
+    append_part(text, number, part)?;
+    text.append(b"\n")
 }
 
 // The constraint in words.

@@ -2,15 +2,21 @@
 //! evidence with the operations of its batches.
 #![tactic(auto)]
 
+mod beside;
+mod bus_words;
 mod columns;
 mod counts;
 mod evidence;
 mod explain;
 mod form;
+mod parts;
 mod rows;
 mod run;
+mod sides;
 mod words;
 
+pub use beside::append_beside;
+pub use bus_words::append_bus;
 pub use columns::column_names;
 pub use counts::{append_row_count, append_rows_line, append_statement_count};
 pub use evidence::{EvidenceError, told_evidence};

@@ -1,12 +1,14 @@
 //! Rows of a table, cell by cell: a line for each, with the cells that are not 0 by their columns' names.
-ghost use Rattle.std.specs.Prelude.{◌≡◌, ◌≤◌, ◌^◌, ◌++◌, length, map, OnOk};
-ghost use Rattle.show_text.specs.RowText.{cell_text, cells_text, row_line, rows_text, lines_between};
+ghost use Rattle.std.specs.Prelude.{◌≡◌, ◌≤◌, ◌<◌, ◌^◌, [], ◌++◌, length, map, slice_index_or, OnOk};
+ghost use Rattle.air_kit.specs.Traces.{rows_of};
+ghost use Rattle.show_text.specs.RowText.{cell_text, cells_text, line_of, main_line, row_line, rows_text};
 
 use crate::columns::column_names;
+use crate::run::append_operation;
 use air_kit::{TableName, Trace};
 use decimal_text::append_number;
 use vm_field::{Bytes, Felt, Memory};
-use vm_table::{Table, View};
+use vm_table::{MainView, View};
 
 /// Adds the rows of a table from one to another, both included, as far as there are any: a line for each.
 ///
@@ -23,33 +25,39 @@ pub fn append_rows(
     requires { last ≤ 2 ^ 32 }
     ensures { OnOk result (text.new ≡ text.old ++ rows_text trace.now table first last) }
 {
+    for i in first..trace.rows(table).min(last + 1) {
+        append_line(text, trace, table, i)?;
+    }
+    Ok(())
+}
+
+// The row of this number of a table.
+fn append_line(text: &mut Bytes, trace: &Trace, table: TableName, i: usize) -> Result<(), Memory>
+    requires { i < length (rows_of trace.now table) }
+    ensures { OnOk result (text.new ≡ text.old ++ line_of table i (slice_index_or (rows_of trace.now table) i [])) }
+{
     let names = column_names(table);
     match table {
-        TableName::Main => append_lines(text, &trace.main, names, first, last),
-        TableName::Range => append_lines(text, &trace.range, names, first, last),
-        TableName::Hasher => append_lines(text, &trace.hasher, names, first, last),
-        TableName::Bitwise => append_lines(text, &trace.bitwise, names, first, last),
-        TableName::Memory => append_lines(text, &trace.memory, names, first, last),
-        TableName::Kernel => append_lines(text, &trace.kernel, names, first, last),
-        TableName::Left => append_lines(text, &trace.left, names, first, last),
+        TableName::Main => append_main_row(text, i, &trace.main.row(i)),
+        TableName::Range => append_row(text, names, i, &trace.range.row(i)),
+        TableName::Hasher => append_row(text, names, i, &trace.hasher.row(i)),
+        TableName::Bitwise => append_row(text, names, i, &trace.bitwise.row(i)),
+        TableName::Memory => append_row(text, names, i, &trace.memory.row(i)),
+        TableName::Kernel => append_row(text, names, i, &trace.kernel.row(i)),
+        TableName::Left => append_row(text, names, i, &trace.left.row(i)),
     }
 }
 
-fn append_lines<const W: usize>(
-    text: &mut Bytes,
-    table: &Table<W>,
-    names: &[&str],
-    first: usize,
-    last: usize,
-) -> Result<(), Memory>
-    requires names { length names.now ≡ W }
-    requires last { last ≤ 2 ^ 32 }
-    ensures { OnOk result (text.new ≡ text.old ++ lines_between (map (λ name. name.now) names.now) table.now first last) }
+// A row of the main table has its operation behind the number.
+fn append_main_row<V: MainView>(text: &mut Bytes, number: usize, row: &V) -> Result<(), Memory>
+    ensures { OnOk result (text.new ≡ text.old ++ main_line number (V.cells row.now)) }
 {
-    for i in first..table.rows().min(last + 1) {
-        append_row(text, names, i, &table.row(i))?;
-    }
-    Ok(())
+    text.append(b"row ")?;
+    append_number(text, number as u64)?;
+    text.append(b" ")?;
+    append_operation(text, row)?;
+    append_cells(text, column_names(TableName::Main), row)?;
+    text.append(b"\n")
 }
 
 fn append_row<const W: usize, V: View<W>>(
@@ -67,8 +75,12 @@ fn append_row<const W: usize, V: View<W>>(
     text.append(b"\n")
 }
 
-// The cells that are not 0.
-fn append_cells<const W: usize, V: View<W>>(
+/// Adds the cells that are not 0.
+///
+/// # Errors
+///
+/// `Memory` where the system gave none for the longer text.
+pub(crate) fn append_cells<const W: usize, V: View<W>>(
     text: &mut Bytes,
     names: &[&str],
     row: &V,

@@ -74,8 +74,12 @@ fn append_row<V: MainView>(text: &mut Bytes, row: &V) -> Result<(), Memory>
     text.append(b"\n")
 }
 
-// The operation's name, or the number that the row spells where it is none's.
-fn append_operation<V: MainView>(text: &mut Bytes, row: &V) -> Result<(), Memory>
+/// Adds the operation's name, or the number that the row spells where it is none's.
+///
+/// # Errors
+///
+/// `Memory` where the system gave none for the longer text.
+pub(crate) fn append_operation<V: MainView>(text: &mut Bytes, row: &V) -> Result<(), Memory>
     ensures { OnOk result (text.new ≡ text.old ++ name_or_number (op_by (V.cells row.now)) (spelled 7 (b (V.cells row.now)))) }
 {
     match op_spelled(row) {
@@ -88,7 +92,8 @@ fn append_operation<V: MainView>(text: &mut Bytes, row: &V) -> Result<(), Memory
     }
 }
 
-fn op_spelled<V: MainView>(row: &V) -> Option<Op>
+/// The operation that a row spells.
+pub(crate) fn op_spelled<V: MainView>(row: &V) -> Option<Op>
     ensures { result ≡ op_by (V.cells row.now) }
 {
     if has_bits(row) {

@@ -2,4 +2,4 @@ use Rattle.std.proofs.Common.{length}
 use Rattle.show_text.proofs.words.+text_for.Given as goal
 
 abbrev pub decreases-text_for : goal.decreases-text_for
-decreases-text_for l = length l.lasts.now
+decreases-text_for l = length l.rows.now
