@@ -1,4 +1,5 @@
 pub mod Blanks
+pub mod LibraryNames
 pub mod Moved
 pub mod MovedLists
 pub mod WhyLemmas

@@ -1,5 +1,5 @@
 -- How tokens are written, in words (docs/ASSEMBLY.md, "Grammar" and "Instructions").
-use Rattle.std.specs.Prelude.{ℕ, Bool, true, false, ◌==◌, ◌||◌, ◌&&◌, not, nat_le, if◌then◌else◌, List, [], ◌∷◌, codes, decimal, find, is_none, slice_index, take, Option, Some, None, option_map}
+use Rattle.std.specs.Prelude.{ℕ, Bool, true, false, ◌==◌, ◌||◌, ◌&&◌, not, nat_le, if◌then◌else◌, List, [], ◌∷◌, codes, decimal, find, is_none, slice_index, take, slice_index_or, Option, Some, None, option_map}
 use Rattle.std.specs.Str.{bytes_eq}
 use Rattle.masm_instr.specs.Instructions.{is_in_range}
 use Rattle.masm_instr.specs.Names.{name_of}
@@ -16,15 +16,27 @@ most_word = 100
 abbrev pub word : List ℕ → List ℕ
 word text = take most_word text
 
+-- a token that begins a procedure
+abbrev pub is_procedure : List ℕ → Bool
+is_procedure first = bytes_eq first (codes "proc") || bytes_eq first (codes "export")
+
+-- a token that names a procedure
+abbrev pub is_use : List ℕ → Bool
+is_use first =
+    bytes_eq first (codes "exec") || bytes_eq first (codes "call") || bytes_eq first (codes "syscall") || bytes_eq first (codes "procref")
+
+-- the parameter of a token of two parts
+abbrev pub parameter : List (List ℕ) → List ℕ
+parameter more = slice_index_or more 0 []
+
 -- how a token of the grammar is written, by its first part; none where its numbers are those of an instruction
 abbrev pub written : List ℕ → Option (List ℕ)
 written first =
     if bytes_eq first (codes "const") then Some (codes ".NAME=v, with a name in upper case and a number")
-    else if bytes_eq first (codes "proc") || bytes_eq first (codes "export")
+    else if is_procedure first
     then Some (codes ".name or with .n behind, with a name in lower case and a number of locals")
     else if bytes_eq first (codes "if") || bytes_eq first (codes "while") then Some (codes ".true")
-    else if bytes_eq first (codes "exec") || bytes_eq first (codes "call") || bytes_eq first (codes "syscall") || bytes_eq first (codes "procref")
-    then Some (codes ".name, with a name in lower case")
+    else if is_use first then Some (codes ".name, with a name in lower case")
     else if bytes_eq first (codes "begin") || bytes_eq first (codes "else") || bytes_eq first (codes "end") || bytes_eq first (codes "dynexec")
     then Some (codes " alone")
     else None

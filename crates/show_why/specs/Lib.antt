@@ -1,9 +1,13 @@
 pub mod Facts
+pub mod Foreign
 pub mod Forms
 pub mod Lines
+pub mod Neighbours
+pub mod Paths
 pub mod RefusalLaws
 pub mod Scenes
 pub mod Sentences
 pub mod Sights
+pub mod Unnamed
 pub mod Views
 pub mod WhySteps

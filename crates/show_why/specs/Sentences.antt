@@ -1,5 +1,5 @@
 -- Sentences on refused tokens (docs/SHOW.md, "why"), with the facts of their places.
-use Rattle.std.specs.Prelude.{ℕ, ◌==◌, Bool, true, false, ◌||◌, if◌then◌else◌, List, [], ◌∷◌, codes, decimal, find, length, slice_index_or, Option, Some, None, option_map}
+use Rattle.std.specs.Prelude.{ℕ, ◌==◌, Bool, true, false, ◌||◌, if◌then◌else◌, List, [], ◌∷◌, codes, decimal, find, length, slice_index_or, Option, Some, None, option_map, unwrap_or}
 use Rattle.std.specs.List.{slice_split}
 use Rattle.std.specs.Str.{bytes_eq}
 use Rattle.masm_instr.specs.Instructions.{is_count}
@@ -14,8 +14,10 @@ use Rattle.masm_tree.specs.declared.terminal.Header.{Header}
 use Rattle.masm_tree.specs.declared.terminal.Role.{Role}
 use Rattle.masm_tree.specs.declared.terminal.Role.TheVariants as roles
 use Rattle.masm_tree.specs.declared.tree.Position.{Position}
-use Rattle.show_why.specs.Forms.{count_line, first_no_number, first_outside, form_by, no_number_line, range_line, word, written, written_line}
+use Rattle.show_why.specs.Foreign.{apart_line, has_semicolon, imports_line, is_apart, separator_line}
+use Rattle.show_why.specs.Forms.{count_line, first_no_number, first_outside, form_by, is_procedure, no_number_line, parameter, range_line, word, written, written_line}
 use Rattle.show_why.specs.Lines.{sentence}
+use Rattle.show_why.specs.Paths.{has_path, path_line, pieces_of}
 use Rattle.show_why.specs.Scenes.{Scene, innermost, last_header}
 use Rattle.show_why.specs.Sights.{Sight, first_of, more_of}
 
@@ -27,10 +29,6 @@ byte_line byte = sentence (codes "the byte " ∷ decimal byte ∷ codes " is nei
 abbrev pub kept_line : List ℕ → List ℕ
 kept_line first = sentence (codes "a kernel has no " ∷ word first ∷ [])
 
--- UnknownInstruction
-abbrev pub no_name_line : List ℕ → List ℕ
-no_name_line first = sentence (codes "there is no instruction " ∷ word first ∷ [])
-
 -- TooManyExports
 abbrev pub exports_line : List ℕ
 exports_line = sentence (codes "a kernel exports at most 255 procedures" ∷ [])
@@ -40,9 +38,10 @@ abbrev pub operations_line : List ℕ
 operations_line = sentence (codes "its tree has more than 524288 operations" ∷ [])
 
 -- Unsupported; `exp` alone would take its exponent from the stack
-abbrev pub unsupported_line : List ℕ → List ℕ
-unsupported_line first =
-    if bytes_eq first (codes "exp") then sentence (codes "exp is written with its exponent, as exp.5" ∷ [])
+abbrev pub unsupported_line : Bool → List ℕ → List ℕ
+unsupported_line kernel first =
+    if bytes_eq first (codes "use") then imports_line kernel
+    else if bytes_eq first (codes "exp") then sentence (codes "exp is written with its exponent, as exp.5" ∷ [])
     else sentence (codes "this machine has no " ∷ word first ∷ [])
 
 -- the source ends early
@@ -67,7 +66,7 @@ has_begun (Some header) = is_main header.role
 abbrev pub outside_line : List ℕ → Bool → List ℕ
 outside_line first begun =
     if begun then sentence (codes "nothing stands behind the end of begin" ∷ [])
-    else if bytes_eq first (codes "export") then sentence (codes "only a kernel has export" ∷ [])
+    else if bytes_eq first (codes "export") then sentence (codes "only a kernel has export: a kernel is named behind --kernel" ∷ [])
     else sentence (word first ∷ codes " may not stand outside of begin and of procedures" ∷ [])
 
 -- a token that does not fit in a block that is open
@@ -93,10 +92,22 @@ parameters_line consts first more None = []
 parameters_line consts first more (Some form) =
     if is_count form (length more) then part_line form (first_no_number consts form more) else count_line first form (length more)
 
--- a token of a wrong form
-abbrev pub malformed_line : List Const → List ℕ → List (List ℕ) → Option (List ℕ) → List ℕ
-malformed_line consts first more (Some form) = written_line first form
-malformed_line consts first more None = parameters_line consts first more (form_by first)
+-- a token of a wrong form, by how it is written
+abbrev pub form_line : List Const → List ℕ → List (List ℕ) → Option (List ℕ) → List ℕ
+form_line consts first more (Some form) = written_line first form
+form_line consts first more None = parameters_line consts first more (form_by first)
+
+-- a token of a wrong form, by its parts: a use with a path, or another one
+abbrev pub parts_line : Bool → List Const → List ℕ → List (List ℕ) → List ℕ
+parts_line kernel consts first more =
+    if has_path first more then path_line kernel first (pieces_of (parameter more)) else form_line consts first more (written first)
+
+-- a token of a wrong form: with a ;, without the number that stands behind it, or another one
+abbrev pub malformed_line : Bool → Sight → List ℕ → List ℕ
+malformed_line kernel sight token =
+    if has_semicolon token then separator_line
+    else if is_apart (first_of sight) (more_of sight) sight.next then apart_line (first_of sight) (unwrap_or sight.next [])
+    else parts_line kernel sight.scene.context.consts (first_of sight) (more_of sight)
 
 abbrev pub is_syntax : Option Cause → Bool
 is_syntax (Some parsing.Syntax) = true
@@ -110,8 +121,7 @@ is_malformed kernel scene token = is_syntax (classify kernel scene.context (reco
 abbrev pub syntax_line : Bool → List ℕ → Sight → Option (List ℕ) → List ℕ
 syntax_line kernel text sight None = end_line text (innermost sight.scene)
 syntax_line kernel text sight (Some token) =
-    if is_malformed kernel sight.scene token
-    then malformed_line sight.scene.context.consts (first_of sight) (more_of sight) (written (first_of sight))
+    if is_malformed kernel sight.scene token then malformed_line kernel sight token
     else misplaced_line text (first_of sight) sight.scene (innermost sight.scene)
 
 -- NumberRange, of a parameter
@@ -129,18 +139,11 @@ number_line consts first more =
     if bytes_eq first (codes "const") then sentence (codes "a constant is at most 18446744069414584320" ∷ [])
     else numbers_line consts first more (form_by first)
 
--- the parameter of a token of two parts
-abbrev pub parameter : List (List ℕ) → List ℕ
-parameter more = slice_index_or more 0 []
-
 -- a local's number that is not below the count of locals
 abbrev pub local_line : List ℕ → ℕ → Option Header → List ℕ
 local_line part locals None = []
 local_line part locals (Some header) =
     sentence (word part ∷ codes " is no local of " ∷ word header.name ∷ codes ", which has " ∷ decimal locals ∷ [])
-
-abbrev pub is_procedure : List ℕ → Bool
-is_procedure first = bytes_eq first (codes "proc") || bytes_eq first (codes "export")
 
 -- LocalsRange
 abbrev pub locals_line : List ℕ → List (List ℕ) → Scene → List ℕ

@@ -17,4 +17,6 @@ scene_view s = record {
 pub record IsSight (held : code.Sight) (sight : Sight) : Type 0 where
   pub scene : scene_view held.scene ≡ sight.scene
   pub token : option_map (λ token. token.now) held.token ≡ sight.token
+  pub next : option_map (λ token. token.now) held.next ≡ sight.next
+  pub procedures : held.procedures.items ≡ sight.procedures
   pub parts : map (λ part. part.now) held.parts.items ≡ parts_of (unwrap_or sight.token [])

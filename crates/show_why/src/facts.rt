@@ -7,11 +7,12 @@ ghost use Rattle.show_why.specs.Views.{IsSight};
 use crate::lines::byte_at;
 use crate::sentences::{
     append_back, append_byte, append_deep, append_duplicate, append_exports, append_kept,
-    append_locals, append_no_name, append_not_exported, append_number_line, append_operations,
-    append_unknown, append_unsupported,
+    append_locals, append_not_exported, append_number_line, append_operations, append_unknown,
+    append_unsupported,
 };
 use crate::sight::{Sight, first_part, later_parts, sight_at};
 use crate::syntax::append_syntax;
+use crate::unnamed::append_unnamed;
 use masm_lex::MAX_SOURCE;
 use masm_link::AsmCause;
 use std::alloc::Global;
@@ -49,8 +50,8 @@ fn append_seen(
             append_byte(text, byte_at(alloc, source, place.line, place.column)?)
         }
         AsmCause::KernelBody => append_kept(text, first),
-        AsmCause::Unsupported => append_unsupported(text, first),
-        AsmCause::UnknownInstruction => append_no_name(text, first),
+        AsmCause::Unsupported => append_unsupported(text, place.in_kernel, first),
+        AsmCause::UnknownInstruction => append_unnamed(text, place.in_kernel, sight),
         AsmCause::Syntax => append_syntax(alloc, text, place.in_kernel, source, sight),
         AsmCause::NumberRange | AsmCause::RepeatRange => {
             append_number_line(text, &scene.consts, first, more)

@@ -1,6 +1,6 @@
 //! How tokens are written, in words.
 ghost use Rattle.std.specs.Prelude.{◌≡◌, ◌++◌, map, option_map, OnOk};
-ghost use Rattle.show_why.specs.Forms.{between_line, count_line, exact_line, first_no_number, first_outside, form_by, is_capital, is_outside, missing_text, no_number_line, none_line, range_line, word, written, written_line};
+ghost use Rattle.show_why.specs.Forms.{between_line, count_line, exact_line, first_no_number, first_outside, form_by, is_capital, is_outside, is_procedure, is_use, missing_text, no_number_line, none_line, range_line, word, written, written_line};
 
 use crate::lines::{append_both, append_sentence, front};
 use itoa::Buffer;
@@ -25,21 +25,34 @@ pub(crate) fn word(text: &[u8]) -> &[u8]
     front(text, MOST_WORD)
 }
 
+// Whether a token begins a procedure.
+pub(crate) fn is_procedure(first: &[u8]) -> bool
+    ensures { result ≡ is_procedure first.now }
+{
+    first == b"proc".as_slice() || first == b"export".as_slice()
+}
+
+// Whether a token names a procedure.
+pub(crate) fn is_use(first: &[u8]) -> bool
+    ensures { result ≡ is_use first.now }
+{
+    first == b"exec".as_slice()
+        || first == b"call".as_slice()
+        || first == b"syscall".as_slice()
+        || first == b"procref".as_slice()
+}
+
 // How a token of the grammar is written, by its first part; none where its numbers are those of an instruction.
 pub(crate) fn written(first: &[u8]) -> Option<&'static str>
     ensures { option_map (λ form. form.now) result ≡ written first.now }
 {
     if first == b"const".as_slice() {
         Some(".NAME=v, with a name in upper case and a number")
-    } else if first == b"proc".as_slice() || first == b"export".as_slice() {
+    } else if is_procedure(first) {
         Some(".name or with .n behind, with a name in lower case and a number of locals")
     } else if first == b"if".as_slice() || first == b"while".as_slice() {
         Some(".true")
-    } else if first == b"exec".as_slice()
-        || first == b"call".as_slice()
-        || first == b"syscall".as_slice()
-        || first == b"procref".as_slice()
-    {
+    } else if is_use(first) {
         Some(".name, with a name in lower case")
     } else if first == b"begin".as_slice()
         || first == b"else".as_slice()

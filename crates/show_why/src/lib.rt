@@ -4,13 +4,17 @@
 
 mod defined;
 mod facts;
+mod foreign;
 mod forms;
 mod laws;
 mod lines;
+mod neighbours;
+mod paths;
 mod scene;
 mod sentences;
 mod sight;
 mod syntax;
+mod unnamed;
 mod whying;
 
 pub use laws::refusals_know_no_constants;

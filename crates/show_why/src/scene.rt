@@ -30,7 +30,7 @@ pub(crate) fn spelled<'a>(source: &'a [u8], token: &Token) -> &'a [u8]
     &source[token.start.min(end)..end]
 }
 
-fn stands_at(token: &Token, line: u32, column: u32) -> bool
+pub(crate) fn stands_at(token: &Token, line: u32, column: u32) -> bool
     ensures { result ≡ stands_at line column token.now }
 {
     token.line == line && token.column == column
@@ -49,7 +49,7 @@ impl Scene {
     }
 
     // How a token is read behind this scene. Its parts are put into the list, in place of what it holds.
-    fn read<'a>(
+    pub(crate) fn read<'a>(
         &self,
         alloc: Global,
         is_kernel: bool,
@@ -88,7 +88,7 @@ impl Scene {
     }
 
     // Goes behind a token.
-    fn pass(&mut self, token: Token, terminal: Terminal) -> Result<(), Memory>
+    pub(crate) fn pass(&mut self, token: Token, terminal: Terminal) -> Result<(), Memory>
         ensures { OnOk result (scene_view self.new ≡ scene_behind (scene_view self.old) token terminal) }
     {
         match terminal {

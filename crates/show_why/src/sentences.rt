@@ -1,10 +1,11 @@
 //! Sentences on one refused token: its name, its numbers, the procedure in which it stands.
 ghost use Rattle.std.specs.Prelude.{◌≡◌, ◌++◌, map, option_map, OnOk};
-ghost use Rattle.show_why.specs.Sentences.{back_line, byte_line, deep_line, deep_text, defined_line, duplicate_line, exporter, exports_line, first_line, is_header, is_procedure, kept_line, local_line, locals_line, no_name_line, not_exported_line, number_line, numbers_line, operations_line, outside_part_line, unknown_line, unsupported_line};
+ghost use Rattle.show_why.specs.Sentences.{back_line, byte_line, deep_line, deep_text, defined_line, duplicate_line, exporter, exports_line, first_line, is_header, kept_line, local_line, locals_line, not_exported_line, number_line, numbers_line, operations_line, outside_part_line, unknown_line, unsupported_line};
 ghost use Rattle.show_why.specs.Views.{scene_view};
 
 use crate::defined::{constant_name, constant_place, procedure_place};
-use crate::forms::{append_range, first_outside, form_by, word};
+use crate::foreign::append_imports;
+use crate::forms::{append_range, first_outside, form_by, is_procedure, word};
 use crate::lines::{append_both, append_sentence};
 use crate::scene::Scene;
 use crate::sight::first_part;
@@ -30,12 +31,6 @@ pub(crate) fn append_kept(text: &mut Bytes, first: &[u8]) -> Result<(), Memory>
     append_sentence(text, &[b"a kernel has no ", word(first)])
 }
 
-pub(crate) fn append_no_name(text: &mut Bytes, first: &[u8]) -> Result<(), Memory>
-    ensures { OnOk result (text.new ≡ text.old ++ no_name_line first.now) }
-{
-    append_sentence(text, &[b"there is no instruction ", word(first)])
-}
-
 pub(crate) fn append_exports(text: &mut Bytes) -> Result<(), Memory>
     ensures { OnOk result (text.new ≡ text.old ++ exports_line) }
 {
@@ -48,9 +43,16 @@ pub(crate) fn append_operations(text: &mut Bytes) -> Result<(), Memory>
     append_sentence(text, &[b"its tree has more than 524288 operations"])
 }
 
-pub(crate) fn append_unsupported(text: &mut Bytes, first: &[u8]) -> Result<(), Memory>
-    ensures { OnOk result (text.new ≡ text.old ++ unsupported_line first.now) }
+pub(crate) fn append_unsupported(
+    text: &mut Bytes,
+    is_kernel: bool,
+    first: &[u8],
+) -> Result<(), Memory>
+    ensures { OnOk result (text.new ≡ text.old ++ unsupported_line is_kernel first.now) }
 {
+    if first == b"use".as_slice() {
+        return append_imports(text, is_kernel);
+    }
     if first == b"exp".as_slice() {
         return append_sentence(text, &[b"exp is written with its exponent, as exp.5"]);
     }
@@ -124,12 +126,6 @@ fn append_local(
             locals,
         ],
     )
-}
-
-fn is_procedure(first: &[u8]) -> bool
-    ensures { result ≡ is_procedure first.now }
-{
-    first == b"proc".as_slice() || first == b"export".as_slice()
 }
 
 pub(crate) fn append_locals(

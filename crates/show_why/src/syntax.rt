@@ -1,17 +1,19 @@
 //! What is told of a token that does not fit or is of a wrong form, and of a source that ends early.
 ghost use Rattle.std.specs.Prelude.{◌≡◌, ◌++◌, map, option_map, IfOk, OnOk};
-ghost use Rattle.show_why.specs.Sentences.{end_line, has_begun, inside_line, is_malformed, malformed_line, misplaced_line, outside_line, parameters_line, part_line, syntax_line};
+ghost use Rattle.show_why.specs.Sentences.{end_line, form_line, has_begun, inside_line, is_malformed, malformed_line, misplaced_line, outside_line, parameters_line, part_line, parts_line, syntax_line};
 ghost use Rattle.show_why.specs.Forms.{written as written_as};
 ghost use Rattle.show_why.specs.Scenes.{innermost};
-ghost use Rattle.show_why.specs.Sights.{Sight as Seen};
+ghost use Rattle.show_why.specs.Sights.{Sight as Seen, first_of, more_of};
 ghost use Rattle.show_why.specs.Views.{IsSight, scene_view};
 
+use crate::foreign::{append_apart, append_separator, has_semicolon, is_apart};
 use crate::forms::{
     append_count, append_no_number, append_written, first_no_number, form_by, word, written,
 };
 use crate::lines::append_sentence;
+use crate::paths::{append_path, has_path};
 use crate::scene::{Scene, spelled};
-use crate::sight::{Sight, first_part, later_parts};
+use crate::sight::{Sight, first_part, later_parts, text_or_nothing};
 use itoa::Buffer;
 use masm_instr::Form;
 use masm_lex::Token;
@@ -60,7 +62,10 @@ fn append_outside(text: &mut Bytes, first: &[u8], begun: bool) -> Result<(), Mem
     if begun {
         append_sentence(text, &[b"nothing stands behind the end of begin"])
     } else if first == b"export".as_slice() {
-        append_sentence(text, &[b"only a kernel has export"])
+        append_sentence(
+            text,
+            &[b"only a kernel has export: a kernel is named behind --kernel"],
+        )
     } else {
         let behind = b" may not stand outside of begin and of procedures";
         append_sentence(text, &[word(first), behind])
@@ -122,17 +127,72 @@ fn append_parameters(
     append_part(text, &form, first_no_number(consts, &form, more))
 }
 
-fn append_malformed(
+fn append_form(
     text: &mut Bytes,
     consts: &Consts,
     first: &[u8],
     more: &[&[u8]],
 ) -> Result<(), Memory>
-    ensures { OnOk result (text.new ≡ text.old ++ malformed_line consts.now first.now (map (λ part. part.now) more.now) (written_as first.now)) }
+    ensures { OnOk result (text.new ≡ text.old ++ form_line consts.now first.now (map (λ part. part.now) more.now) (written_as first.now)) }
 {
     match written(first) {
         Some(form) => append_written(text, first, form),
         None => append_parameters(text, consts, first, more, form_by(first)),
+    }
+}
+
+// Adds what is told of a token of a wrong form by its parts.
+fn append_parts(
+    alloc: Global,
+    text: &mut Bytes,
+    is_kernel: bool,
+    consts: &Consts,
+    first: &[u8],
+    more: &[&[u8]],
+) -> Result<(), Memory>
+    ensures { OnOk result (text.new ≡ text.old ++ parts_line is_kernel consts.now first.now (map (λ part. part.now) more.now)) }
+{
+    if has_path(alloc, first, more)? {
+        append_path(alloc, text, is_kernel, first, more)
+    } else {
+        append_form(text, consts, first, more)
+    }
+}
+
+// Adds what is told of a token in sight by its parts.
+fn append_rest(
+    alloc: Global,
+    text: &mut Bytes,
+    is_kernel: bool,
+    sight: &Sight<'_>,
+) -> Result<(), Memory>
+    ensures { OnOk result ((seen : Seen) → IsSight sight.now seen
+        → text.new ≡ text.old ++ parts_line is_kernel seen.scene.context.consts (first_of seen) (more_of seen)) }
+{
+    let first = first_part(sight.parts.as_slice());
+    let more = later_parts(sight.parts.as_slice());
+    append_parts(alloc, text, is_kernel, &sight.scene.consts, first, more)
+}
+
+// Adds what is told of a token of a wrong form.
+fn append_malformed(
+    alloc: Global,
+    text: &mut Bytes,
+    is_kernel: bool,
+    sight: &Sight<'_>,
+    token: &[u8],
+) -> Result<(), Memory>
+    ensures { OnOk result ((seen : Seen) → IsSight sight.now seen
+        → text.new ≡ text.old ++ malformed_line is_kernel seen token.now) }
+{
+    let first = first_part(sight.parts.as_slice());
+    let more = later_parts(sight.parts.as_slice());
+    if has_semicolon(token) {
+        append_separator(text)
+    } else if is_apart(first, more, sight.next) {
+        append_apart(text, first, text_or_nothing(sight.next))
+    } else {
+        append_rest(alloc, text, is_kernel, sight)
     }
 }
 
@@ -168,15 +228,9 @@ pub(crate) fn append_syntax(
     let Some(token) = sight.token else {
         return append_end(text, source, scene.innermost());
     };
-    let first = first_part(sight.parts.as_slice());
     if is_malformed(alloc, is_kernel, scene, token)? {
-        append_malformed(
-            text,
-            &scene.consts,
-            first,
-            later_parts(sight.parts.as_slice()),
-        )
+        append_malformed(alloc, text, is_kernel, sight, token)
     } else {
-        append_misplaced(text, source, first, scene)
+        append_misplaced(text, source, first_part(sight.parts.as_slice()), scene)
     }
 }

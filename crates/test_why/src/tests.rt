@@ -1,4 +1,5 @@
 mod content;
+mod foreign;
 mod large;
 mod names;
 mod numbers;

@@ -52,7 +52,7 @@ static PLACES: [Row; 5] = [
         "source p 1 1 Syntax\n\
             export.f end begin end\n\
             ^\n\
-            only a kernel has export\n",
+            only a kernel has export: a kernel is named behind --kernel\n",
     ),
     (
         Text("begin end add"),

@@ -1,0 +1,53 @@
+-- Names with a path before them, as u64::wrapping_add: here a name has none, and those of the library are as u64_wrapping_add.
+use Rattle.std.specs.Prelude.{ℕ, ◌-◌, Bool, ◌==◌, ◌&&◌, not, nat_le, if◌then◌else◌, List, [], ◌∷◌, ◌++◌, codes, length, slice_index_or}
+use Rattle.std.specs.List.{slice_split}
+use Rattle.std.specs.Str.{bytes_eq}
+use Rattle.masm_link.specs.Libraries.{has_name}
+use Rattle.std_u64.specs.Libraries.{u64_library}
+use Rattle.show_why.specs.Forms.{is_use, parameter, word}
+use Rattle.show_why.specs.Lines.{sentence}
+
+-- what stands between the colons of a part
+abbrev pub pieces_of : List ℕ → List (List ℕ)
+pieces_of part = slice_split (λ byte. byte == 58) part
+
+-- the piece so many places before their end
+abbrev pub piece_before : ℕ → List (List ℕ) → List ℕ
+piece_before count pieces = slice_index_or pieces (length pieces - count) []
+
+-- a path's last two colons are one behind the other, and a name stands behind them
+abbrev pub is_path : List (List ℕ) → Bool
+is_path pieces = nat_le 3 (length pieces) && (length (piece_before 2 pieces) == 0) && not (length (piece_before 1 pieces) == 0)
+
+-- whether a token names one procedure
+abbrev pub names_one : List ℕ → List (List ℕ) → Bool
+names_one first more = is_use first && (length more == 1)
+
+-- whether it names it with a path
+abbrev pub has_path : List ℕ → List (List ℕ) → Bool
+has_path first more = names_one first more && is_path (pieces_of (parameter more))
+
+-- the last two names of a path as one
+abbrev pub joined_name : List (List ℕ) → List ℕ
+joined_name pieces = piece_before 3 pieces ++ codes "_" ++ piece_before 1 pieces
+
+-- whether a source may use a procedure of the library by this name; a kernel has no library
+abbrev pub is_of_library : Bool → List ℕ → Bool
+is_of_library kernel name = not kernel && has_name u64_library name
+
+-- whether a token of this first part may; no syscall does
+abbrev pub reaches_library : Bool → List ℕ → List ℕ → Bool
+reaches_library kernel first name = not (bytes_eq first (codes "syscall")) && is_of_library kernel name
+
+abbrev pub alone_line : List ℕ → List ℕ → List ℕ → List ℕ
+alone_line what first name =
+    sentence (codes "names have no path here: " ∷ what ∷ codes " named alone, as " ∷ word first ∷ codes "." ∷ word name ∷ [])
+
+-- the library's procedure of the joined name, where the token reaches it, or one of the last name
+abbrev pub either_line : Bool → List ℕ → List ℕ → List ℕ → List ℕ
+either_line reaches first joined last =
+    if reaches then alone_line (codes "the library's procedures are") first joined else alone_line (codes "a procedure is") first last
+
+abbrev pub path_line : Bool → List ℕ → List (List ℕ) → List ℕ
+path_line kernel first pieces =
+    either_line (reaches_library kernel first (joined_name pieces)) first (joined_name pieces) (piece_before 1 pieces)
