@@ -21,11 +21,9 @@ use Rattle.cmd_kit.specs.CheckEnds.{IsVerdictOf}
 use Rattle.cmd_kit.specs.Outcomes.{EndsIn, SaysLine, SaysStatus}
 use Rattle.cmd_kit.specs.RefusalLines.{refused_line}
 use Rattle.cmd_kit.proofs.OutcomeLemmas.{says_line}
-use Rattle.show_text.specs.ExplainText.{tuple_text}
-use Rattle.show_app.specs.CountedText.{counted_text}
 use Rattle.cmd_kit.specs.Steps.{Verdict, accepted, refused, checked, stop}
 use Rattle.cmd_kit.proofs.ServingLemmas.{goes_past_finding, same_again, says_comes, work_ends}
-use Rattle.show_app.specs.ShowSteps.{IsNoFault, explained, explained_text, faulty_text, judging_steps}
+use Rattle.show_app.specs.ShowSteps.{IsNoFault, explained, explained_text, faulty_text, judging_steps, tuple_lines}
 
 module _ (p : Public) (t : Trace) (o : Outcome) (s : ShelfState) where
   abbrev Ended : Type 0
@@ -41,10 +39,12 @@ module _ (p : Public) (t : Trace) (o : Outcome) (s : ShelfState) where
   accepted_ends is says = goes accepted is (work_ends (stop status.Ok (codes "accepted\n")) o s (says_comes status.Ok (codes "accepted\n") o refl says))
 
   -- one with an entry that is not 0
-  pub faulty_ends : (fault : Fault) → IsFirstFault (claim_of p t) t fault → SaysStatus o status.Refused (faulty_text t fault) → Ended
+  pub faulty_ends : (fault : Fault) → IsFirstFault (claim_of p t) t fault → SaysStatus o status.Refused (faulty_text (claim_of p t) t fault)
+      → Ended
   faulty_ends fault is says =
       goes (refused (why.Fault fault)) is
-      (work_ends (stop status.Refused (faulty_text t fault)) o s (says_comes status.Refused (faulty_text t fault) o refl says))
+      (work_ends (stop status.Refused (faulty_text (claim_of p t) t fault)) o s
+      (says_comes status.Refused (faulty_text (claim_of p t) t fault) o refl says))
 
   -- one that is refused otherwise, where want of memory is answered by itself
   pub otherwise_ends : (r : Refused) → IsRefusal p t r → IsNoFault r → (r ≡ why.Memory → o ≡ outcome.Memory)
@@ -67,10 +67,10 @@ no_fault p t why.Memory zero is = tt
 -- the lines of a bus whose tuple is lent
 pub bus_says : (o : Outcome) (made : Result (List ℕ) Memory) (claim : Claim) (t : Trace) (r : Refused) (bus : Bus) (tuple lent : List ℕ)
     (asked given : ℕ) → r ≡ why.Bus bus tuple asked given → lent ≡ tuple → SaysLine o status.Refused made
-    → IfOk made (λ line. line ≡ refused_line r ++ tuple_text bus lent ++ counted_text claim t bus lent)
+    → IfOk made (λ line. line ≡ refused_line r ++ tuple_lines claim t bus lent)
     → SaysStatus o status.Refused (explained_text claim t r)
 bus_says o made claim t r bus tuple lent asked given is same says made_is =
     subst (λ x. SaysStatus o status.Refused (explained_text claim t x)) (sym is)
     (says_line o status.Refused made (explained_text claim t (why.Bus bus tuple asked given)) says
-    (subst (λ x. IfOk made (λ line. line ≡ refused_line x ++ tuple_text bus tuple ++ counted_text claim t bus tuple)) is
-    (subst (λ x. IfOk made (λ line. line ≡ refused_line r ++ tuple_text bus x ++ counted_text claim t bus x)) same made_is)))
+    (subst (λ x. IfOk made (λ line. line ≡ refused_line x ++ tuple_lines claim t bus tuple)) is
+    (subst (λ x. IfOk made (λ line. line ≡ refused_line r ++ tuple_lines claim t bus x)) same made_is)))

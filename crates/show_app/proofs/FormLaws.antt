@@ -16,7 +16,7 @@ use Rattle.show_app.specs.declared.names.CommandName.{CommandName}
 use Rattle.show_app.specs.declared.names.CommandName.TheVariants as name
 use Rattle.show_app.specs.Forms.{asked_by, asked_in, form_named}
 use Rattle.show_app.specs.Named.{asked_as}
-use Rattle.show_app.specs.Showing.{Shown, nothing, cycles_of, evidence_of, explain_of, last_row, or_else, reason_of, rows_of, run_of}
+use Rattle.show_app.specs.Showing.{Shown, nothing, all_rows_of, cycles_of, evidence_of, explain_of, last_row, one_row_of, or_else, reason_of, rows_of, run_of}
 use Rattle.show_app.specs.Tables.{table_named}
 
 abbrev Text : Type 0
@@ -52,6 +52,22 @@ at_row = by_place (number_of_word 0 last_row) (plain_number 0 last_row) nothing
 
 no_run : (t : Option Text) → Unmeant (t ∷ []) [] → run_of (place t) ≡ nothing
 no_run t h = at_place t run_of refl (λ a t_there. absurd (h (t_there, tt) tt))
+
+no_all_rows : (t n : Option Text) → Unmeant (t ∷ n ∷ []) [] → all_rows_of (place t) (option_and_then table_named (place n)) ≡ nothing
+no_all_rows t n h =
+    at_place t (λ x. all_rows_of x (option_and_then table_named (place n))) refl (λ a t_there.
+    at_place n (λ x. all_rows_of (Some a) (option_and_then table_named x)) refl (λ b n_there. absurd (h (t_there, (n_there, tt)) tt)))
+
+no_one_row : (t n r : Option Text) → Unmeant (t ∷ n ∷ r ∷ []) [] → one_row_of (place t) (option_and_then table_named (place n)) (row r) ≡ nothing
+no_one_row t n r h =
+    at_place t (λ x. one_row_of x (option_and_then table_named (place n)) (row r)) refl (λ a t_there.
+    at_place n (λ x. one_row_of (Some a) (option_and_then table_named x) (row r)) refl (λ b n_there.
+    at_row r (λ x. one_row_of (Some a) (option_and_then table_named (Some b)) x) (by_table a (table_named b)) (λ c r_there.
+    absurd (h (t_there, (n_there, (r_there, tt))) tt))))
+  where
+    by_table : (a : Text) (name : Option TableName) → one_row_of (Some a) name None ≡ nothing
+    by_table a None = refl
+    by_table a (Some name) = refl
 
 no_rows : (t n f l : Option Text) → Unmeant (t ∷ n ∷ f ∷ l ∷ []) [] → rows_of (place t) (option_and_then table_named (place n)) (row f) (row l) ≡ nothing
 no_rows t n f l h =
@@ -102,6 +118,8 @@ no_reason s k h =
 no_texts : (f : Form) (words : List Text) → Unmeant (texts_in (form_named f) words).places (texts_in (form_named f) words).free
     → asked_in f (texts_in (form_named f) words) ≡ nothing
 no_texts form.Run words h = no_run _ h
+no_texts form.AllRows words h = no_all_rows _ _ h
+no_texts form.OneRow words h = no_one_row _ _ _ h
 no_texts form.Rows words h = no_rows _ _ _ _ h
 no_texts form.Explain words h = no_explain _ _ _ h
 no_texts form.Evidence words h = no_evidence _ h
@@ -114,6 +132,8 @@ asks_by_form : (f : Form) (words : List Text)
     → asked_by f words
     ≡ (if is_form (length (form_named f).places) (map dashed (options_of (form_named f))) words then asked_in f (texts_in (form_named f) words) else nothing)
 asks_by_form form.Run words = refl
+asks_by_form form.AllRows words = refl
+asks_by_form form.OneRow words = refl
 asks_by_form form.Rows words = refl
 asks_by_form form.Explain words = refl
 asks_by_form form.Evidence words = refl
@@ -122,6 +142,8 @@ asks_by_form form.Why words = refl
 
 ascii_names : (f : Form) → list_all (list_all (λ b. nat_lt b 128)) (options_of (form_named f)) ≡ true
 ascii_names form.Run = refl
+ascii_names form.AllRows = refl
+ascii_names form.OneRow = refl
 ascii_names form.Rows = refl
 ascii_names form.Explain = refl
 ascii_names form.Evidence = refl
@@ -137,6 +159,8 @@ asked_by_texts f words e = asks_by_form f words ∙ ap (λ b. if b then asked_in
 meant : (f : Form) (words : List Text) → HasForm (form_named f) words → AreThere (texts_in (form_named f) words).places
     → MayStand (texts_in (form_named f) words).free → MayBeMeant (form_named f) words
 meant form.Run words form places free = record { form = form; places = places; needed = tt; free = free }
+meant form.AllRows words form places free = record { form = form; places = places; needed = tt; free = free }
+meant form.OneRow words form places free = record { form = form; places = places; needed = tt; free = free }
 meant form.Rows words form places free = record { form = form; places = places; needed = tt; free = free }
 meant form.Explain words form places free = record { form = form; places = places; needed = tt; free = free }
 meant form.Evidence words form places free = record { form = form; places = places; needed = tt; free = free }
@@ -153,12 +177,18 @@ unmeant_is_nothing f words h =
     go true e = no_texts f words (λ places free. h (meant f words e places free))
     go false e = refl
 
+neither : (a b : Shown) → a ≡ nothing → b ≡ nothing → or_else a b ≡ nothing
+neither a b none also = ap (λ x. or_else x b) none ∙ also
+
 untext_forms : (f : Form) (words : List Text) → (AllText words → ⊥) → asked_by f words ≡ nothing
 untext_forms f words h = unmeant_is_nothing f words (λ m. h (meant-text (form_named f) words (ascii_text (options_of (form_named f)) (ascii_names f)) m))
 
 -- words that are not all text ask for nothing
 pub untexts_are_nothing : (n : CommandName) (words : List Text) → (AllText words → ⊥) → asked_as n words ≡ nothing
-untexts_are_nothing name.Show words h = ap (λ a. or_else a (asked_by form.Rows words)) (untext_forms form.Run words h) ∙ untext_forms form.Rows words h
+untexts_are_nothing name.Show words h =
+    neither (asked_by form.Run words) _ (untext_forms form.Run words h)
+    (neither (asked_by form.AllRows words) _ (untext_forms form.AllRows words h)
+    (neither (asked_by form.OneRow words) _ (untext_forms form.OneRow words h) (untext_forms form.Rows words h)))
 untexts_are_nothing name.Explain words h = untext_forms form.Explain words h
 untexts_are_nothing name.Evidence words h = untext_forms form.Evidence words h
 untexts_are_nothing name.Trace words h = untext_forms form.Trace words h

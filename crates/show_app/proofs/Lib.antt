@@ -2,4 +2,5 @@ pub mod CountedLemmas
 pub mod ExplainLemmas
 pub mod FormLaws
 pub mod QuietLemmas
+pub mod RefusedLemmas
 pub mod ShowLemmas

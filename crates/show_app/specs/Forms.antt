@@ -5,8 +5,8 @@ use Rattle.air_kit.specs.declared.trace.TableName.{TableName}
 use Rattle.cmd_reading.specs.Form.{WordForm}
 use Rattle.cmd_reading.specs.Meaning.{FormTexts}
 use Rattle.cmd_reading.specs.Values.{name_in, number_in, option_name, option_number_or_most}
-use Rattle.show_app.specs.Showing.{Shown, cycles_of, cycles_words, evidence_of, evidence_words, explain_of, explain_words, last_row, reason_of, reason_words}
-use Rattle.show_app.specs.Showing.{rows_of, rows_words, run_of, run_words}
+use Rattle.show_app.specs.Showing.{Shown, all_rows_of, all_rows_words, cycles_of, cycles_words, evidence_of, evidence_words, explain_of, explain_words}
+use Rattle.show_app.specs.Showing.{last_row, one_row_of, one_row_words, reason_of, reason_words, rows_of, rows_words, run_of, run_words}
 use Rattle.show_app.specs.Tables.{table_named}
 use Rattle.show_app.specs.declared.forms.Form.{Form}
 use Rattle.show_app.specs.declared.forms.Form.TheVariants as form
@@ -14,6 +14,8 @@ use Rattle.show_app.specs.declared.forms.Form.TheVariants as form
 -- what the words ask for, read so
 abbrev pub asked_by : Form → List (List ℕ) → Shown
 asked_by form.Run words = run_words words
+asked_by form.AllRows words = all_rows_words words
+asked_by form.OneRow words = one_row_words words
 asked_by form.Rows words = rows_words words
 asked_by form.Explain words = explain_words words
 asked_by form.Evidence words = evidence_words words
@@ -23,6 +25,8 @@ asked_by form.Why words = reason_words words
 -- the names of what stands in the words
 abbrev pub form_named : Form → WordForm
 form_named form.Run = record { places = codes "table" ∷ []; needed = []; free = [] }
+form_named form.AllRows = record { places = codes "table" ∷ codes "name" ∷ []; needed = []; free = [] }
+form_named form.OneRow = record { places = codes "table" ∷ codes "name" ∷ codes "row" ∷ []; needed = []; free = [] }
 form_named form.Rows = record { places = codes "table" ∷ codes "name" ∷ codes "first" ∷ codes "last" ∷ []; needed = []; free = [] }
 form_named form.Explain = record { places = codes "params" ∷ codes "table" ∷ codes "statement" ∷ []; needed = []; free = [] }
 form_named form.Evidence = record { places = codes "evidence" ∷ []; needed = []; free = [] }
@@ -44,6 +48,8 @@ row_in i texts = number_in 0 last_row i texts
 -- what the texts ask for
 abbrev pub asked_in : Form → FormTexts → Shown
 asked_in form.Run t = run_of (name_in 0 t.places)
+asked_in form.AllRows t = all_rows_of (name_in 0 t.places) (table_in 1 t.places)
+asked_in form.OneRow t = one_row_of (name_in 0 t.places) (table_in 1 t.places) (row_in 2 t.places)
 asked_in form.Rows t = rows_of (name_in 0 t.places) (table_in 1 t.places) (row_in 2 t.places) (row_in 3 t.places)
 asked_in form.Explain t = explain_of (name_in 0 t.places) (name_in 1 t.places) (name_in 2 t.places)
 asked_in form.Evidence t = evidence_of (name_in 0 t.places)

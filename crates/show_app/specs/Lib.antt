@@ -3,6 +3,7 @@ pub mod CountedText
 pub mod Forms
 pub mod Laws
 pub mod Named
+pub mod RefusedRows
 pub mod Showing
 pub mod ShowSteps
 pub mod Tables

@@ -7,6 +7,7 @@ use Rattle.air_kit.specs.declared.fault.Fault.{Fault}
 use Rattle.air_kit.specs.declared.trace.TableName.{TableName}
 use Rattle.air_kit.specs.declared.trace.Trace.{Trace}
 use Rattle.buses.specs.declared.bus.Bus.{Bus}
+use Rattle.checker.specs.FaultRows.{faults_of}
 use Rattle.checker.specs.declared.refusal.Refused.{Refused}
 use Rattle.checker.specs.declared.refusal.Refused.TheVariants as why
 use Rattle.statement.specs.Statements.{Stated}
@@ -15,6 +16,8 @@ use Rattle.cmd_kit.specs.RefusalLines.{bus_line, fault_line}
 use Rattle.cmd_kit.specs.Starts.{params_steps, statement_steps, trace_steps}
 use Rattle.cmd_kit.specs.Steps.{End, Steps, Verdict, accepted, refused, asking, checked, ending, reading, stop}
 use Rattle.cmd_kit.specs.declared.status.Status.TheVariants as status
+use Rattle.show_text.specs.BesideText.{beside_text}
+use Rattle.show_text.specs.BusWords.{bus_words_line}
 use Rattle.show_text.specs.EvidenceText.{told_evidence}
 use Rattle.show_text.specs.ExplainText.{fault_text, tuple_text}
 use Rattle.show_text.specs.RowText.{rows_text}
@@ -22,6 +25,7 @@ use Rattle.show_text.specs.RunText.{trace_text}
 use Rattle.show_trace.specs.TraceSteps.{trace_steps as cycle_steps}
 use Rattle.show_why.specs.WhySteps.{why_steps}
 use Rattle.show_app.specs.CountedText.{counted_text}
+use Rattle.show_app.specs.RefusedRows.{refused_rows}
 use Rattle.show_app.specs.Showing.{Shown, nothing, run, rows, explain, evidence, cycles, reason}
 
 -- the longest evidence that is read, in bytes
@@ -34,17 +38,21 @@ run_steps table = trace_steps table (λ trace. ending (stop status.Ok (trace_tex
 abbrev pub rows_steps : List ℕ → TableName → ℕ → ℕ → Steps
 rows_steps table name first last = trace_steps table (λ trace. ending (stop status.Ok (rows_text trace name first last)))
 
--- the line of `check`, the constraint in words, and the row with the next one
-abbrev pub faulty_text : Trace → Fault → List ℕ
-faulty_text trace fault = fault_line fault ++ fault_text trace fault
+-- the line of `check`, the constraint in words with the row and the next one, and the other rows that are refused
+abbrev pub faulty_text : Claim → Trace → Fault → List ℕ
+faulty_text claim trace fault = fault_line fault ++ fault_text trace fault ++ refused_rows (faults_of claim trace)
 
--- the line of `check`, the tuple's elements by name, and the rows that ask and give it
+-- behind the line of `check`: the bus in words, the tuple's elements by name, the rows that ask and give it, and those beside them
+abbrev pub tuple_lines : Claim → Trace → Bus → List ℕ → List ℕ
+tuple_lines claim trace bus tuple =
+    bus_words_line bus ++ tuple_text bus tuple ++ counted_text claim trace bus tuple ++ beside_text trace bus tuple
+
 abbrev pub bus_text : Claim → Trace → Bus → List ℕ → ℕ → ℕ → List ℕ
-bus_text claim trace bus tuple asked given = bus_line bus tuple asked given ++ tuple_text bus tuple ++ counted_text claim trace bus tuple
+bus_text claim trace bus tuple asked given = bus_line bus tuple asked given ++ tuple_lines claim trace bus tuple
 
 -- what is told of a refusal; of want of memory nothing
 abbrev pub explained_text : Claim → Trace → Refused → List ℕ
-explained_text claim trace (why.Fault fault) = faulty_text trace fault
+explained_text claim trace (why.Fault fault) = faulty_text claim trace fault
 explained_text claim trace (why.Bus bus tuple asked given) = bus_text claim trace bus tuple asked given
 explained_text claim trace why.Memory = []
 

@@ -33,6 +33,16 @@ abbrev pub run_of : Option (List ℕ) → Shown
 run_of (Some table) = run table
 run_of None = nothing
 
+-- whatever rows there are
+abbrev pub all_rows_of : Option (List ℕ) → Option TableName → Shown
+all_rows_of (Some table) (Some name) = rows table name 0 last_row
+all_rows_of table name = nothing
+
+-- the one of this number
+abbrev pub one_row_of : Option (List ℕ) → Option TableName → Option ℕ → Shown
+one_row_of (Some table) (Some name) (Some number) = rows table name number number
+one_row_of table name number = nothing
+
 -- the first row is not behind the last one
 abbrev pub rows_of : Option (List ℕ) → Option TableName → Option ℕ → Option ℕ → Shown
 rows_of (Some table) (Some name) (Some first) (Some last) = if nat_le first last then rows table name first last else nothing
@@ -57,6 +67,15 @@ reason_of source kernel = nothing
 -- `show` and the name of a table file
 abbrev pub run_words : List (List ℕ) → Shown
 run_words words = if is_form 1 [] words then run_of (name_at 0 words) else nothing
+
+-- `show`, the name of a table file, and that of a table
+abbrev pub all_rows_words : List (List ℕ) → Shown
+all_rows_words words = if is_form 2 [] words then all_rows_of (name_at 0 words) (table_at 1 words) else nothing
+
+-- `show`, the name of a table file, that of a table, and the number of a row
+abbrev pub one_row_words : List (List ℕ) → Shown
+one_row_words words =
+    if is_form 3 [] words then one_row_of (name_at 0 words) (table_at 1 words) (number_at 0 last_row 2 words) else nothing
 
 -- `show`, the name of a table file, that of a table, and two numbers of rows
 abbrev pub rows_words : List (List ℕ) → Shown
@@ -87,10 +106,17 @@ abbrev pub or_else : Shown → Shown → Shown
 or_else nothing other = other
 or_else asked other = asked
 
+-- `show` and rows of a table: all, one, or those from one to another
+abbrev pub table_words : List (List ℕ) → Shown
+table_words words = or_else (all_rows_words words) (or_else (one_row_words words) (rows_words words))
+
+abbrev pub show_words : List (List ℕ) → Shown
+show_words words = or_else (run_words words) (table_words words)
+
 unfoldable pub shown : List (List ℕ) → Shown
 shown [] = nothing
 shown (command ∷ words) =
-    if bytes_eq command (codes "show") then or_else (run_words words) (rows_words words)
+    if bytes_eq command (codes "show") then show_words words
     else if bytes_eq command (codes "explain") then explain_words words
     else if bytes_eq command (codes "evidence") then evidence_words words
     else if bytes_eq command (codes "trace") then cycles_words words

@@ -9,17 +9,16 @@ ghost use Rattle.checker.specs.declared.refusal.Refused.TheVariants as why;
 ghost use Rattle.cmd_kit.specs.declared.outcome.Outcome.TheVariants as outcome;
 ghost use Rattle.cmd_kit.specs.Outcomes.{EndsIn, SaysStatus, either};
 ghost use Rattle.cmd_kit.specs.RefusalLines.{refused_line};
-ghost use Rattle.show_text.specs.ExplainText.{tuple_text};
 ghost use Rattle.vm_io.specs.Shelf.{ShelfState};
-ghost use Rattle.show_app.specs.CountedText.{counted_text};
-ghost use Rattle.show_app.specs.ShowSteps.{IsNoFault, explain_steps, explained_text, faulty_text, judging_steps};
+ghost use Rattle.show_app.specs.ShowSteps.{IsNoFault, explain_steps, explained_text, faulty_text, judging_steps, tuple_lines};
 
 use crate::counting::append_counted;
+use crate::refused_rows::append_refused_rows;
 use air_kit::{Fault, Public, Trace};
 use buses::Bus;
 use checker::{Refused, Seed, check_buses, check_rows};
 use cmd_kit::{Outcome, Status, answered, load_params, load_statement, load_trace, refused_line};
-use show_text::{append_fault, append_tuple};
+use show_text::{append_beside, append_bus, append_fault, append_tuple};
 use std::alloc::Global;
 use std::thread::Threads;
 use vm_field::{Bytes, Felt, Memory};
@@ -89,23 +88,26 @@ fn explain<R: Threads + Sync, G: Gate>(
         → EndsIn (Some (judging_steps (constants_of public.params) trace (stated_of public.statement))) result s s }
 {
     match check_rows(rt, &trace, &public, 1, gate) {
-        Some(fault) => explain_fault(alloc, &trace, fault),
+        Some(fault) => explain_fault(alloc, &public, &trace, fault),
         None => explain_buses(rt, alloc, seed, gate, &public, &trace),
     }
 }
 
 #[tactic(auto, using(cmd_kit::proofs::OutcomeLemmas::says_line))]
-fn explain_fault(alloc: Global, trace: &Trace, fault: Fault) -> Outcome
-    ensures { SaysStatus result Status.Refused (faulty_text trace.now fault) }
+fn explain_fault(alloc: Global, public: &Public, trace: &Trace, fault: Fault) -> Outcome
+    requires { HasCounts trace.now }
+    ensures { SaysStatus result Status.Refused (faulty_text (claim_of public.now trace.now) trace.now fault) }
 {
-    answered(Status::Refused, fault_lines(alloc, trace, fault))
+    answered(Status::Refused, fault_lines(alloc, public, trace, fault))
 }
 
-fn fault_lines(alloc: Global, trace: &Trace, fault: Fault) -> Result<Bytes, Memory>
-    ensures { IfOk result (λ text. text ≡ faulty_text trace.now fault) }
+fn fault_lines(alloc: Global, public: &Public, trace: &Trace, fault: Fault) -> Result<Bytes, Memory>
+    requires { HasCounts trace.now }
+    ensures { IfOk result (λ text. text ≡ faulty_text (claim_of public.now trace.now) trace.now fault) }
 {
     let mut text = refused_line(alloc, &Refused::Fault(fault))?;
     append_fault(&mut text, trace, &fault)?;
+    append_refused_rows(&mut text, alloc, trace, public)?;
     Ok(text)
 }
 
@@ -173,10 +175,12 @@ fn bus_lines(
     requires counts { HasCounts trace.now }
     requires zero { AreZero (claim_of public.now trace.now) trace.now }
     ensures { IfOk result (λ text. text
-        ≡ refused_line refused.now ++ tuple_text bus tuple.now ++ counted_text (claim_of public.now trace.now) trace.now bus tuple.now) }
+        ≡ refused_line refused.now ++ tuple_lines (claim_of public.now trace.now) trace.now bus tuple.now) }
 {
     let mut text = refused_line(alloc, refused)?;
+    append_bus(&mut text, bus)?;
     append_tuple(&mut text, bus, tuple)?;
     append_counted(&mut text, alloc, seed, trace, public, bus, tuple)?;
+    append_beside(&mut text, trace, bus, tuple)?;
     Ok(text)
 }

@@ -3,11 +3,15 @@ ghost use Rattle.std.specs.Prelude.{◌≡◌, []};
 ghost use Rattle.cmd_reading.specs.Form.{form_of};
 ghost use Rattle.show_app.specs.Forms.{form_named};
 
-/// How words may be read. `show` has two forms.
+/// How words may be read. `show` has the first four forms.
 #[derive(Clone, Copy, Debug, PartialEq, Eq)]
 pub enum Form {
     /// `show T`
     Run,
+    /// `show T TABLE`
+    AllRows,
+    /// `show T TABLE ROW`
+    OneRow,
     /// `show T TABLE FROM TO`
     Rows,
     /// `explain PARAMS T S`
@@ -34,6 +38,8 @@ pub fn names_of(form: Form) -> FormNames
 {
     match form {
         Form::Run => without_options(&["table"]),
+        Form::AllRows => without_options(&["table", "name"]),
+        Form::OneRow => without_options(&["table", "name", "row"]),
         Form::Rows => without_options(&["table", "name", "first", "last"]),
         Form::Explain => without_options(&["params", "table", "statement"]),
         Form::Evidence => without_options(&["evidence"]),

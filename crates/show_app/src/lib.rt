@@ -5,6 +5,7 @@ mod counting;
 mod explaining;
 mod forms;
 mod names;
+mod refused_rows;
 mod serving;
 mod showing;
 mod telling;

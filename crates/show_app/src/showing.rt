@@ -5,7 +5,7 @@ ghost use Rattle.cmd_reading.specs.Form.{AllText};
 ghost use Rattle.cmd_kit.specs.Outcomes.{EndsIn, SaysStatus};
 ghost use Rattle.show_app.specs.Asking.{asks, NamesFiles};
 ghost use Rattle.show_app.specs.Named.{asked_as};
-ghost use Rattle.show_app.specs.Showing.{shown};
+ghost use Rattle.show_app.specs.Showing.{show_words, shown, table_words};
 ghost use Rattle.show_app.specs.ShowSteps.{steps_of};
 
 use crate::explaining::{ExplainNames, explain_files};
@@ -48,7 +48,7 @@ pub fn show<R: Threads + Sync, F: Shelf, G: Gate>(
     }
 }
 
-// What the words behind the name ask for. Behind `show` stands a table file alone, or a table and its rows behind it.
+// What the words behind the name ask for.
 fn named_command<'a>(
     alloc: Global,
     name: CommandName,
@@ -59,14 +59,38 @@ fn named_command<'a>(
     ensures named { IfOk result NamesFiles }
 {
     match name {
-        CommandName::Show => match command_of(alloc, Form::Run, words)? {
-            Command::Nothing => command_of(alloc, Form::Rows, words),
-            command => Ok(command),
-        },
+        CommandName::Show => show_command(alloc, words),
         CommandName::Explain => command_of(alloc, Form::Explain, words),
         CommandName::Evidence => command_of(alloc, Form::Evidence, words),
         CommandName::Trace => command_of(alloc, Form::Trace, words),
         CommandName::Why => command_of(alloc, Form::Why, words),
+    }
+}
+
+// Behind `show` stands a table file alone, or one of its tables behind it.
+fn show_command<'a>(alloc: Global, words: &'a [&'a str]) -> Result<Command<'a>, Memory>
+    requires text { AllText (map (λ s. s.now) words.now) }
+    ensures asks { IfOk result (λ c. asks c ≡ show_words (map (λ s. s.now) words.entry.now)) }
+    ensures named { IfOk result NamesFiles }
+{
+    match command_of(alloc, Form::Run, words)? {
+        Command::Nothing => table_command(alloc, words),
+        command => Ok(command),
+    }
+}
+
+// Behind the table stands nothing, the number of a row, or those of the first and the last one.
+fn table_command<'a>(alloc: Global, words: &'a [&'a str]) -> Result<Command<'a>, Memory>
+    requires text { AllText (map (λ s. s.now) words.now) }
+    ensures asks { IfOk result (λ c. asks c ≡ table_words (map (λ s. s.now) words.entry.now)) }
+    ensures named { IfOk result NamesFiles }
+{
+    match command_of(alloc, Form::AllRows, words)? {
+        Command::Nothing => match command_of(alloc, Form::OneRow, words)? {
+            Command::Nothing => command_of(alloc, Form::Rows, words),
+            command => Ok(command),
+        },
+        command => Ok(command),
     }
 }
 

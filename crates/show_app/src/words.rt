@@ -6,7 +6,7 @@ ghost use Rattle.cmd_reading.specs.Meaning.{texts_read};
 ghost use Rattle.show_app.specs.Asking.{asks, NamesFiles};
 ghost use Rattle.cmd_reading.specs.Values.{name_in, option_name, option_number_or_most};
 ghost use Rattle.show_app.specs.Forms.{asked_by, asked_in, row_in as row_at_place, table_in};
-ghost use Rattle.show_app.specs.Showing.{cycles_of, evidence_of, explain_of, last_row, reason_of, rows_of, run_of};
+ghost use Rattle.show_app.specs.Showing.{all_rows_of, cycles_of, evidence_of, explain_of, last_row, one_row_of, reason_of, rows_of, run_of};
 ghost use Rattle.show_app.specs.Tables.{table_named};
 
 use crate::forms::{Form, names_of};
@@ -85,6 +85,8 @@ fn command_in<'a>(form: Form, read: &ReadWords<'a>) -> Command<'a>
 {
     match form {
         Form::Run => run_in(read),
+        Form::AllRows => all_rows_in(read),
+        Form::OneRow => one_row_in(read),
         Form::Rows => rows_in(read),
         Form::Explain => explain_in(read),
         Form::Evidence => evidence_in(read),
@@ -100,6 +102,41 @@ fn run_in<'a>(read: &ReadWords<'a>) -> Command<'a>
     match place_name(read, 0) {
         Some(table) => Command::Run { table },
         None => Command::Nothing,
+    }
+}
+
+fn all_rows_in<'a>(read: &ReadWords<'a>) -> Command<'a>
+    ensures asks { asks result ≡ all_rows_of (name_in 0 (texts_read read.now).places) (table_in 1 (texts_read read.now).places) }
+    ensures named { NamesFiles result }
+{
+    match (place_name(read, 0), place_table(read, 1)) {
+        (Some(table), Some(name)) => Command::Rows {
+            table,
+            name,
+            first: 0,
+            last: LAST_ROW as usize,
+        },
+        _ => Command::Nothing,
+    }
+}
+
+fn one_row_in<'a>(read: &ReadWords<'a>) -> Command<'a>
+    ensures asks { asks result ≡ one_row_of (name_in 0 (texts_read read.now).places) (table_in 1 (texts_read read.now).places)
+        (row_at_place 2 (texts_read read.now).places) }
+    ensures named { NamesFiles result }
+{
+    match (
+        place_name(read, 0),
+        place_table(read, 1),
+        place_row(read, 2),
+    ) {
+        (Some(table), Some(name), Some(row)) => Command::Rows {
+            table,
+            name,
+            first: row,
+            last: row,
+        },
+        _ => Command::Nothing,
     }
 }
 

@@ -38,12 +38,34 @@ static MAIN: [Other; 30] = [
     (241, 16),
 ];
 
+// A row of the bitwise table whose operation is none.
+static NO_OPERATION: [u64; 12] = [2, 0, 0, 0, 0, 0, 0, 0, 0, 0, 0, 0];
+
+// The first access of all, which reads a zero, and one at its address and its clock, which writes a 1: the clock grows by -1 + 1.
+static FIRST_ACCESS: [u64; 14] = [0, 0, 0, 0, 0, 0, 0, 0, 1, 0, 0, 0, 0, 0];
+
+static SAME_CLOCK: [u64; 14] = [1, 0, 0, 0, 1, 0, 0, 0, 0, 0, 18446744069414584320, 0, 0, 0];
+
+// Rows beside those of `begin end`.
+#[derive(Clone, Copy)]
+struct MoreRows {
+    // At the front of the range table, each of which gives 0 once.
+    range: u64,
+    bitwise: u64,
+    // The first access, and those at its clock.
+    memory: u64,
+}
+
 /// What a file holds.
 pub enum Content {
     /// The table file of `begin end` under constants that are all 0, with other elements in these places, as long as so many bytes.
     Table(&'static [Other], usize),
     /// That file with so many rows more at the front of its range table, each of which gives 0 once.
     RangeRows(u64),
+    /// That file with so many rows in its bitwise table, each with 2 in its column `op`.
+    BitwiseRows(u64),
+    /// That file with so many rows in its memory table: one reads 0 at the address 0 and the clock 0, and each other one writes 1 there.
+    MemoryRows(u64),
     /// So many lines `0`.
     Zeros(usize),
     /// This text.
@@ -53,30 +75,35 @@ pub enum Content {
 /// The bytes of a file.
 pub fn bytes_of(alloc: Global, content: &Content) -> Result<Vec<u8>, Memory> {
     match content {
-        Content::Table(others, size) => table(alloc, others, 0, *size),
-        Content::RangeRows(count) => table(alloc, &[], *count, usize::MAX),
+        Content::Table(others, size) => table(alloc, others, more(0, 0, 0), *size),
+        Content::RangeRows(count) => table(alloc, &[], more(*count, 0, 0), usize::MAX),
+        Content::BitwiseRows(count) => table(alloc, &[], more(0, *count, 0), usize::MAX),
+        Content::MemoryRows(count) => table(alloc, &[], more(0, 0, *count), usize::MAX),
         Content::Zeros(count) => zeros(alloc, *count),
         Content::Text(text) => Ok(Vec::from_slice(alloc, text.as_bytes())?),
     }
 }
 
-// Four rows of the main table, 42 of the range table behind so many that give 0, and a permutation of zeros.
-fn table(
-    alloc: Global,
-    others: &[Other],
-    giving_zero: u64,
-    size: usize,
-) -> Result<Vec<u8>, Memory> {
+fn more(range: u64, bitwise: u64, memory: u64) -> MoreRows {
+    MoreRows {
+        range,
+        bitwise,
+        memory,
+    }
+}
+
+// Four rows of the main table, 42 of the range table, and a permutation of zeros, with more rows.
+fn table(alloc: Global, others: &[Other], more: MoreRows, size: usize) -> Result<Vec<u8>, Memory> {
     let mut bytes = Vec::from_slice(alloc, b"MDTB")?;
-    for count in [2, 4, giving_zero.saturating_add(42), 8, 0, 0, 0, 0] {
+    let range_rows = more.range.saturating_add(42);
+    for count in [2, 4, range_rows, 8, more.bitwise, more.memory, 0, 0] {
         push_number(&mut bytes, count, 4)?;
     }
     let mut range = 0u64;
     for place in 0..464usize {
         if place == 260 {
-            for _ in 0..giving_zero {
-                push_number(&mut bytes, 1, 8)?;
-                push_number(&mut bytes, 0, 8)?;
+            for _ in 0..more.range {
+                push_row(&mut bytes, &[1, 0])?;
             }
         }
         let value = if place < 260 {
@@ -86,8 +113,30 @@ fn table(
         };
         push_number(&mut bytes, found(others, place).unwrap_or(value), 8)?;
     }
+    for _ in 0..more.bitwise {
+        push_row(&mut bytes, &NO_OPERATION)?;
+    }
+    for number in 0..more.memory {
+        push_row(&mut bytes, access(number))?;
+    }
     bytes.truncate(size);
     Ok(bytes)
+}
+
+// The row of memory of this number.
+fn access(number: u64) -> &'static [u64] {
+    if number == 0 {
+        &FIRST_ACCESS
+    } else {
+        &SAME_CLOCK
+    }
+}
+
+fn push_row(bytes: &mut Vec<u8>, row: &[u64]) -> Result<(), Memory> {
+    for cell in row {
+        push_number(bytes, *cell, 8)?;
+    }
+    Ok(())
 }
 
 fn found(others: &[Other], place: usize) -> Option<u64> {

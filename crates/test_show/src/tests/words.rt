@@ -1,12 +1,14 @@
 use crate::tests::row::{Row, all_hold};
 use std::test::Fail;
 
-static WRONG: [&[&str]; 20] = [
+static WRONG: [&[&str]; 22] = [
     &[],
     &["shows", "t"],
     &["show"],
-    &["show", "t", "main"],
-    &["show", "t", "main", "0"],
+    &["show", "t", "stack"],
+    &["show", "t", "stack", "0"],
+    &["show", "t", "main", "00"],
+    &["show", "t", "main", "4194304"],
     &["show", "t", "main", "2", "1"],
     &["show", "t", "main", "0", "1", "2"],
     &["show", "t", "stack", "0", "1"],
