@@ -1,3 +1,4 @@
 pub mod CycleLemmas
 pub mod KeptLemmas
+pub mod NameLemmas
 pub mod OperationLemmas

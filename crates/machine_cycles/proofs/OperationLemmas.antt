@@ -1,5 +1,5 @@
 -- One cycle of an operation, as the code answers it.
-use Rattle.std.proofs.Common.{◌≡◌, ℕ, ◌^◌, ◌<◌, ◌≤◌, Bool, true, false, List, [], ◌∷◌, ◌++◌, length, take, slice_index, Option, Some, None, Ok, Err, IsTrue, IfSome, MatchOption, ◌≢◌, refl, subst, ap, arith, if◌then◌else◌}
+use Rattle.std.proofs.Common.{◌≡◌, ℕ, ◌^◌, ◌<◌, ◌≤◌, Bool, true, false, List, [], ◌∷◌, ◌++◌, length, take, slice_index, Option, Some, None, Ok, Err, IsTrue, IfSome, MatchOption, ◌≢◌, refl, subst, sym, ap, ◌∙◌, arith, if◌then◌else◌}
 use Rattle.std.proofs.lemmas.Bool.{ltb-true}
 use Rattle.std.proofs.lemmas.List.{get_or-take}
 use Rattle.vm_field.specs.Machine as machine
@@ -132,3 +132,34 @@ module _ (setting : Setting) (item : Item) (before : State) where
         is_result,
         same_word (core_of after.state),
       ) refl)
+
+  -- the same where it takes nothing of the tape, accesses no memory and has no immediate
+  pub plain-done : {log : List Event} {after : Runner} {u : Unit {0}}
+      → (item.imm ≡ None) × (advice_of item.op ≡ 0) × (accesses_memory item.op ≡ false) → (visible : Visible) (result : ℕ)
+      → (visible ≡ visible_of (core_of before)) × (before.clock < setting.limit)
+      → step (constants_in setting) item (state_of before) ≡ Ok (state_of after.state)
+      → result ≡ top (core_of after.state)
+      → after.log ≡ log ++ (record {
+        op = item.op;
+        before = visible;
+        imm = None;
+        tape = zero_word;
+        word = zero_word;
+        hash = zero_word ++ zero_word;
+        result = result;
+      }) ∷ []
+      → Ran setting (cycle_in setting (Do item) (state_of before)) log (Ok u) after
+  plain-done {log} {after} {u} plain visible result began e is_result logged =
+      operation-done visible zero_word zero_word result began e
+      (λ enough. sym (ap (λ n. four_of (take n before.tape)) plain.1))
+      (sym (ap (λ b. if b then word_at after.state.memory visible.context (slice_index visible.cells 0) else zero_word) plain.2))
+      is_result
+      (logged ∙ ap (λ imm. log ++ (record {
+        op = item.op;
+        before = visible;
+        imm = imm;
+        tape = zero_word;
+        word = zero_word;
+        hash = zero_word ++ zero_word;
+        result = result;
+      }) ∷ []) (sym plain.0))

@@ -1,13 +1,14 @@
 -- An event as it is kept: what it has of its own, and what stands in the lists beside it.
-use Rattle.std.specs.Prelude.{ℕ, zero, suc, ◌≤◌, List, [], ◌∷◌, ◌++◌, length, map, slice_index, slice_index_or, All, Option, Some, None}
+use Rattle.std.specs.Prelude.{ℕ, List, [], ◌∷◌, ◌++◌, map, slice_index, All, Option, Some, None}
 use Rattle.vm_field.specs.Machine.{zero_word}
+use Rattle.machine_cycles.specs.Names.{AreWithin, elements_named, lower_named, scene_named, zeros}
 use Rattle.machine_cycles.specs.declared.event.Event.{Event}
+use Rattle.machine_cycles.specs.declared.event.Visible.{Visible}
+use Rattle.machine_cycles.specs.declared.names.Lists.{Lists}
+use Rattle.machine_cycles.specs.declared.names.Scene.{Scene}
 use Rattle.machine_cycles.specs.declared.log.Kept.{Kept}
 use Rattle.machine_cycles.specs.declared.log.Use.{Use}
 use Rattle.machine_cycles.specs.declared.log.Use.TheVariants.{Immediate, Operation, Block}
-
-abbrev pub zeros : List ℕ
-zeros = zero_word ++ zero_word
 
 -- what an event shows of the eight elements that its cycle uses; the rest is 0
 abbrev pub imm_in : Use → List ℕ → Option ℕ
@@ -30,38 +31,36 @@ hash_in Immediate elements = zeros
 hash_in Operation elements = zeros
 hash_in Block elements = elements
 
--- what a number names of a list: 0 the zeros, n + 1 what stands at n
-abbrev pub named : List ℕ → List (List ℕ) → ℕ → List ℕ
-named none xs zero = none
-named none xs (suc n) = slice_index_or xs n none
+-- the state before the event's cycle, in a scene and with these cells below the fourth
+abbrev pub visible_in : Scene → List ℕ → Kept → Visible
+visible_in scene lower k = record {
+  clock = k.clock;
+  context = scene.context;
+  fmp = scene.fmp;
+  in_syscall = scene.in_syscall;
+  digest = scene.digest;
+  nesting = scene.nesting;
+  depth = k.depth;
+  cells = k.top ++ lower;
+}
 
-abbrev pub event_of : List (List ℕ) → List (List ℕ) → Kept → Event
-event_of functions uses k = record {
+abbrev pub event_in : Scene → List ℕ → List ℕ → Kept → Event
+event_in scene lower elements k = record {
   op = k.op;
-  before = record {
-    clock = k.clock;
-    context = k.context;
-    fmp = k.fmp;
-    in_syscall = k.in_syscall;
-    digest = named zero_word functions k.function;
-    nesting = k.nesting;
-    depth = k.depth;
-    cells = k.cells;
-  };
-  imm = imm_in k.kind (named zeros uses k.elements);
-  tape = tape_in k.kind (named zeros uses k.elements);
-  word = word_in k.kind (named zeros uses k.elements);
-  hash = hash_in k.kind (named zeros uses k.elements);
+  before = visible_in scene lower k;
+  imm = imm_in k.kind elements;
+  tape = tape_in k.kind elements;
+  word = word_in k.kind elements;
+  hash = hash_in k.kind elements;
   result = k.result;
 }
 
-abbrev pub events_of : List (List ℕ) → List (List ℕ) → List Kept → List Event
-events_of functions uses items = map (event_of functions uses) items
+abbrev pub event_of : Lists → Kept → Event
+event_of lists k = event_in (scene_named lists k.names) (lower_named lists k.names) (elements_named lists k.names) k
 
--- each number names something
-pub record HasNames (functions uses : List (List ℕ)) (k : Kept) : Type 0 where
-  pub function : k.function ≤ length functions
-  pub elements : k.elements ≤ length uses
+abbrev pub events_of : Lists → List Kept → List Event
+events_of lists items = map (event_of lists) items
 
-abbrev pub HaveNames : List (List ℕ) → List (List ℕ) → List Kept → Type 0
-HaveNames functions uses items = All (HasNames functions uses) items
+-- each event names what there is
+abbrev pub HaveNames : Lists → List Kept → Type 0
+HaveNames lists items = All (λ k. AreWithin lists k.names) items

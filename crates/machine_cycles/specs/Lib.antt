@@ -3,6 +3,7 @@ pub mod Marks
 pub mod Settings
 pub mod Stops
 pub mod Events
+pub mod Names
 pub mod Kept
 pub mod Running
 pub mod Log

@@ -1,4 +1,4 @@
-ghost use Rattle.std.specs.Prelude.{◌≡◌, ◌^◌, ◌<◌, ◌≤◌, if◌then◌else◌, length, slice_index, take, IsTrue, IfOk, OnOk, MatchResult};
+ghost use Rattle.std.specs.Prelude.{◌≡◌, ◌^◌, ◌<◌, ◌≤◌, None, false, if◌then◌else◌, length, slice_index, take, IsTrue, IfOk, OnOk, MatchResult};
 ghost use Rattle.block_tree.specs.Cycles.{Do, frame_of};
 ghost use Rattle.vm_ops.specs.Codes.{accesses_memory};
 ghost use Rattle.vm_ops.specs.Items.{IsOrdinaryItem};
@@ -25,7 +25,7 @@ use op_steps::{StepStop, step, step_hperm};
 use perm_memo::Permutations;
 use std::mem;
 use vm_field::{Felt, Word};
-use vm_ops::{Item, Op, accesses_memory};
+use vm_ops::{Item, Op, accesses_memory, advice};
 use vm_state::{Aside, State};
 
 /// The state of a run, and what its cycles have shown so far.
@@ -53,7 +53,7 @@ pub fn cycle(runner: &mut Runner, setting: &Setting, mark: Mark) -> Result<(), S
     }
     runner.state.clock += 1;
     let top = top_of(&runner.state);
-    runner.log.push_block(op, before, hash, top)?;
+    runner.log.push_block(op, &before, &hash, top)?;
     Ok(())
 }
 
@@ -87,6 +87,44 @@ pub fn operation(runner: &mut Runner, setting: &Setting, item: &Item) -> Result<
     ensures ran { Ran setting.now (cycle_in setting.now (Do item.now) (state_of runner.old.state)) runner.old.log result runner.new }
     ensures same { runner.new.permutations ≡ runner.old.permutations }
 {
+    if is_plain(item) {
+        plain_operation(runner, setting, item)
+    } else {
+        using_operation(runner, setting, item)
+    }
+}
+
+// Whether the operation takes nothing of the tape, accesses no memory and has no immediate.
+fn is_plain(item: &Item) -> bool
+    ensures { IsTrue result → (item.now.imm ≡ None) × (advice_of item.now.op ≡ 0) × (accesses_memory item.now.op ≡ false) }
+{
+    item.imm.is_none() && advice(item.op) == 0 && !accesses_memory(item.op)
+}
+
+// The same of a plain operation. Most are, so that this way is short.
+fn plain_operation(runner: &mut Runner, setting: &Setting, item: &Item) -> Result<(), Stop>
+    requires item { IsOrdinaryItem item.now }
+    requires constants { runner.old.permutations ≡ constants_in setting.now }
+    requires plain { (item.now.imm ≡ None) × (advice_of item.now.op ≡ 0) × (accesses_memory item.now.op ≡ false) }
+    ensures ran { Ran setting.now (cycle_in setting.now (Do item.now) (state_of runner.old.state)) runner.old.log result runner.new }
+    ensures same { runner.new.permutations ≡ runner.old.permutations }
+{
+    let before = before_cycle(&runner.state, setting)?;
+    if let Err(stop) = stepped(runner, setting, item) {
+        return Err(stop_at(before.clock, stop));
+    }
+    let top = top_of(&runner.state);
+    runner.log.push_plain(item.op, &before, top)?;
+    Ok(())
+}
+
+// The same of any operation.
+fn using_operation(runner: &mut Runner, setting: &Setting, item: &Item) -> Result<(), Stop>
+    requires item { IsOrdinaryItem item.now }
+    requires constants { runner.old.permutations ≡ constants_in setting.now }
+    ensures ran { Ran setting.now (cycle_in setting.now (Do item.now) (state_of runner.old.state)) runner.old.log result runner.new }
+    ensures same { runner.new.permutations ≡ runner.old.permutations }
+{
     let before = before_cycle(&runner.state, setting)?;
     let tape = next_advice(&runner.state, item.op);
     if let Err(stop) = stepped(runner, setting, item) {
@@ -94,7 +132,7 @@ pub fn operation(runner: &mut Runner, setting: &Setting, item: &Item) -> Result<
     }
     let word = word_behind(&runner.state, item.op, &before);
     let top = top_of(&runner.state);
-    runner.log.push_operation(item, before, tape, word, top)?;
+    runner.log.push_operation(item, &before, &tape, &word, top)?;
     Ok(())
 }
 

@@ -6,6 +6,7 @@ mod effects;
 mod event;
 mod log;
 mod mark;
+mod names;
 mod refusal;
 mod setting;
 

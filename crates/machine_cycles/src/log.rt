@@ -1,16 +1,16 @@
-ghost use Rattle.std.specs.Prelude.{◌≡◌, ◌<◌, ◌≤◌, List, ℕ, [], ◌∷◌, ◌++◌, None, length, IfOk, IfSome, OnOk, OnErr, IsTrue};
+ghost use Rattle.std.specs.Prelude.{◌≡◌, ◌<◌, [], ◌∷◌, ◌++◌, None, length, take, IfSome, IsTrue, OnOk, OnErr};
 ghost use Rattle.vm_field.specs.Machine.{zero_word};
-ghost use Rattle.machine_cycles.specs.Kept.{hash_in, imm_in, named, tape_in, word_in, zeros};
+ghost use Rattle.machine_cycles.specs.Kept.{hash_in, imm_in, tape_in, word_in};
+ghost use Rattle.machine_cycles.specs.Names.{zeros};
 ghost use Rattle.machine_cycles.specs.Log.{ShowsAt};
 ghost use Rattle.machine_cycles.specs.declared.log.Use.TheVariants.{Operation};
 
 use crate::event::{Event, Visible};
+use crate::names::{Likely, Lists, Names, ZEROS, cells_named, elements_named, number};
 use std::alloc::Global;
 use std::marker::Model;
 use vm_field::{Felt, Memory, Word};
 use vm_ops::{Item, Op};
-
-const ZEROS: [Felt; 8] = [Felt::ZERO; 8];
 
 // What a cycle uses its eight elements for.
 #[derive(Clone, Copy, Drop)]
@@ -23,21 +23,17 @@ enum Use {
     Block,
 }
 
-// What an event has of its own. A run has many events, of which few use elements, and the function
-// that runs changes at calls alone: both stand in lists beside the events, and an event names its
-// own by their place and one, or by 0 where they are zeros.
+// What an event has of its own. A run has so many events that much of its time goes where their
+// memory is touched first. Few of them use elements, the scene changes at blocks and calls, and most
+// cycles leave the cells below the fourth as they are, or move them by one. So these stand in lists
+// beside the events, where an event names its own.
 #[derive(Drop)]
 struct Kept {
-    cells: [Felt; 16],
-    fmp: Felt,
+    top: [Felt; 4],
     result: Felt,
-    depth: usize,
-    function: usize,
-    elements: usize,
     clock: u32,
-    context: u32,
-    nesting: u32,
-    in_syscall: bool,
+    depth: u32,
+    names: Names,
     op: Op,
     kind: Use,
 }
@@ -46,8 +42,7 @@ struct Kept {
 #[derive(Drop)]
 pub struct Events {
     items: Vec<Kept>,
-    functions: Vec<Word>,
-    uses: Vec<[Felt; 8]>,
+    lists: Lists,
 }
 
 impl Model for Events {
@@ -57,9 +52,9 @@ impl Model for Events {
 
     ghost Value = { List Event };
 
-    ghost view = { λ a. events_of a.functions.items a.uses.items a.items.items };
+    ghost view = { λ a. events_of a.lists a.items.items };
 
-    ghost invariant = { λ a. HaveNames a.functions.items a.uses.items a.items.items };
+    ghost invariant = { λ a. HaveNames a.lists a.items.items };
 }
 
 impl Events {
@@ -69,8 +64,7 @@ impl Events {
     {
         Events {
             items: Vec::new(alloc),
-            functions: Vec::new(alloc),
-            uses: Vec::new(alloc),
+            lists: Lists::new(alloc),
         }
     }
 
@@ -79,23 +73,23 @@ impl Events {
     pub fn push_block(
         &mut self,
         op: Op,
-        before: Visible,
-        hash: [Felt; 8],
+        before: &Visible,
+        hash: &[Felt; 8],
         top: Felt,
     ) -> Result<(), Memory>
         ensures ok { OnOk result (self.new ≡ self.old
             ++ record {
               op = op;
-              before = before;
+              before = before.now;
               imm = None;
               tape = zero_word;
               word = zero_word;
-              hash = hash;
+              hash = hash.now;
               result = top;
             } ∷ []) }
         ensures err { OnErr result (self.new ≡ self.old) }
     {
-        self.push(op, &before, Use::Block, hash, top)
+        self.push(op, before, Use::Block, hash, false, top)
     }
 
     /// Adds the event of an operation, with what it takes of the tape, the word of memory that it
@@ -104,19 +98,19 @@ impl Events {
     pub fn push_operation(
         &mut self,
         item: &Item,
-        before: Visible,
-        tape: [Felt; 4],
-        word: [Felt; 4],
+        before: &Visible,
+        tape: &[Felt; 4],
+        word: &[Felt; 4],
         top: Felt,
     ) -> Result<(), Memory>
-        requires { IfSome item.now.imm (λ imm. (tape ≡ zero_word) × (word ≡ zero_word)) }
+        requires { IfSome item.now.imm (λ imm. (tape.now ≡ zero_word) × (word.now ≡ zero_word)) }
         ensures ok { OnOk result (self.new ≡ self.old
             ++ record {
               op = item.now.op;
-              before = before;
+              before = before.now;
               imm = item.now.imm;
-              tape = tape;
-              word = word;
+              tape = tape.now;
+              word = word.now;
               hash = zero_word ++ zero_word;
               result = top;
             } ∷ []) }
@@ -125,45 +119,62 @@ impl Events {
         let zero = Felt::ZERO;
         let (kind, elements) = match item.imm {
             Some(imm) => (Use::Immediate, joined(&[imm, zero, zero, zero], &[zero; 4])),
-            None => (Use::Operation, joined(&word, &tape)),
+            None => (Use::Operation, joined(word, tape)),
         };
-        self.push(item.op, &before, kind, elements, top)
+        self.push(item.op, before, kind, &elements, false, top)
     }
 
-    // Adds an event. At `Memory` the list is as before.
+    /// Adds the event of an operation that takes nothing of the tape and accesses no memory, and has
+    /// no immediate, with the cell on top behind it. At `Memory` the list is as before.
+    pub(crate) fn push_plain(&mut self, op: Op, before: &Visible, top: Felt) -> Result<(), Memory>
+        ensures ok { OnOk result (self.new ≡ self.old
+            ++ record {
+              op = op;
+              before = before.now;
+              imm = None;
+              tape = zero_word;
+              word = zero_word;
+              hash = zero_word ++ zero_word;
+              result = top;
+            } ∷ []) }
+        ensures err { OnErr result (self.new ≡ self.old) }
+    {
+        self.push(op, before, Use::Block, &ZEROS, true, top)
+    }
+
+    // Adds an event, whose elements are zeros where it is plain. At `Memory` the list is as before.
     fn push(
         &mut self,
         op: Op,
         before: &Visible,
         kind: Use,
-        elements: [Felt; 8],
+        elements: &[Felt; 8],
+        plain: bool,
         top: Felt,
     ) -> Result<(), Memory>
+        requires { IsTrue plain → elements.now ≡ zeros }
         ensures ok { OnOk result (self.new ≡ self.old
             ++ record {
               op = op;
               before = before.now;
-              imm = imm_in kind elements;
-              tape = tape_in kind elements;
-              word = word_in kind elements;
-              hash = hash_in kind elements;
+              imm = imm_in kind elements.now;
+              tape = tape_in kind elements.now;
+              word = word_in kind elements.now;
+              hash = hash_in kind elements.now;
               result = top;
             } ∷ []) }
         ensures err { OnErr result (self.new ≡ self.old) }
     {
-        let function = name_function(&mut self.functions, before.digest)?;
-        let elements = name_elements(&mut self.uses, elements)?;
+        let depth = number(before.depth)?;
+        let names = self
+            .lists
+            .names(likely_behind(&self.items, depth), before, elements, plain)?;
         self.items.push(Kept {
-            cells: before.cells,
-            fmp: before.fmp,
+            top: top_cells(&before.cells),
             result: top,
-            depth: before.depth,
-            function,
-            elements,
             clock: before.clock,
-            context: before.context,
-            nesting: before.nesting,
-            in_syscall: before.in_syscall,
+            depth,
+            names,
             op,
             kind,
         })?;
@@ -184,15 +195,16 @@ impl Events {
         ensures { ShowsAt self.now place (λ e. result ≡ e.before) }
     {
         let kept = &self.items[place];
+        let scene = &self.lists.scenes[kept.names.scene as usize];
         Visible {
             clock: kept.clock,
-            context: kept.context,
-            fmp: kept.fmp,
-            in_syscall: kept.in_syscall,
-            digest: function_named(&self.functions, kept.function),
-            nesting: kept.nesting,
-            depth: kept.depth,
-            cells: kept.cells,
+            context: scene.context,
+            fmp: scene.fmp,
+            in_syscall: scene.in_syscall,
+            digest: scene.digest,
+            nesting: scene.nesting,
+            depth: kept.depth as usize,
+            cells: cells_named(&kept.top, &self.lists.cells, kept.names.lower as usize),
         }
     }
 
@@ -204,7 +216,7 @@ impl Events {
         let kept = &self.items[place];
         match kept.kind {
             Use::Immediate | Use::Operation => ZEROS,
-            Use::Block => elements_named(&self.uses, kept.elements),
+            Use::Block => elements_named(&self.lists.uses, kept.names.elements),
         }
     }
 
@@ -214,7 +226,7 @@ impl Events {
         ensures { ShowsAt self.now place (λ e. result ≡ e) }
     {
         let kept = &self.items[place];
-        let elements = elements_named(&self.uses, kept.elements);
+        let elements = elements_named(&self.lists.uses, kept.names.elements);
         let four = Word::ZERO.elements();
         let eight = ZEROS;
         let (imm, word, tape, hash) = match kept.kind {
@@ -241,6 +253,28 @@ impl Events {
     }
 }
 
+// From the latest event, and how deep the stack is behind it: the cells move with the depth.
+fn likely_behind(items: &[Kept], depth: u32) -> Likely {
+    match items.last() {
+        None => Likely { scene: 0, near: 0 },
+        Some(kept) => Likely {
+            scene: kept.names.scene,
+            near: kept
+                .names
+                .lower
+                .wrapping_add(depth)
+                .wrapping_sub(kept.depth),
+        },
+    }
+}
+
+// The top four of a state's cells.
+fn top_cells(cells: &[Felt; 16]) -> [Felt; 4]
+    ensures { result ≡ take 4 cells.now }
+{
+    [cells[0], cells[1], cells[2], cells[3]]
+}
+
 // The elements of a word, and behind them those of another one.
 fn joined(first: &[Felt; 4], second: &[Felt; 4]) -> [Felt; 8]
     ensures { (word_in Operation result ≡ first.now) × (tape_in Operation result ≡ second.now) }
@@ -262,51 +296,4 @@ fn last_of(elements: &[Felt; 8]) -> [Felt; 4]
     ensures { result ≡ tape_in Operation elements.now }
 {
     [elements[4], elements[5], elements[6], elements[7]]
-}
-
-// The number of a function's digest in a list, to which it is added where the latest is another.
-fn name_function(functions: &mut Vec<Word>, digest: Word) -> Result<usize, Memory>
-    ensures more { (more : List (List ℕ)) × (functions.new.items ≡ functions.old.items ++ more) }
-    ensures is { IfOk result (λ number. (number ≤ length functions.new.items) × (named zero_word functions.new.items number ≡ digest)) }
-{
-    let number = functions.len();
-    if function_named(functions, number) != digest {
-        functions.push(digest)?;
-        return Ok(number + 1);
-    }
-    Ok(number)
-}
-
-// The number of eight elements in a list, to which they are added where they are not zeros.
-fn name_elements(uses: &mut Vec<[Felt; 8]>, elements: [Felt; 8]) -> Result<usize, Memory>
-    ensures more { (more : List (List ℕ)) × (uses.new.items ≡ uses.old.items ++ more) }
-    ensures is { IfOk result (λ number. (number ≤ length uses.new.items) × (named zeros uses.new.items number ≡ elements)) }
-{
-    if elements == ZEROS {
-        return Ok(0);
-    }
-    uses.push(elements)?;
-    Ok(uses.len())
-}
-
-// The digest that a number names.
-fn function_named(functions: &[Word], number: usize) -> Word
-    requires { number ≤ length functions.now }
-    ensures { result ≡ named zero_word functions.now number }
-{
-    match number.checked_sub(1) {
-        None => Word::ZERO,
-        Some(place) => functions[place],
-    }
-}
-
-// The eight elements that a number names.
-fn elements_named(uses: &[[Felt; 8]], number: usize) -> [Felt; 8]
-    requires { number ≤ length uses.now }
-    ensures { result ≡ named zeros uses.now number }
-{
-    match number.checked_sub(1) {
-        None => ZEROS,
-        Some(place) => uses[place],
-    }
 }

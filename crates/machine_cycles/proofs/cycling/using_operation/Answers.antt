@@ -4,7 +4,7 @@ use Rattle.machine_cycles.specs.Settings.{constants_in}
 use Rattle.machine_cycles.proofs.CycleLemmas.{ran-late}
 use Rattle.machine_cycles.proofs.OperationLemmas.{address-fits, operation-stop, operation-done, pushes-alone}
 use Rattle.vm_state.specs.Views.{state_of}
-use Rattle.machine_cycles.proofs.cycling.operation.Goals as goal
+use Rattle.machine_cycles.proofs.cycling.using_operation.Goals as goal
 
 pub returns-in_err-before-clause-ran : goal.returns-in_err-before-clause-ran
 returns-in_err-before-clause-ran c =

@@ -1,0 +1,23 @@
+use Rattle.std.proofs.Common.{rules}
+use Rattle.block_tree.specs.Cycles.{Do}
+use Rattle.machine_cycles.proofs.CycleLemmas.{ran-late}
+use Rattle.machine_cycles.proofs.OperationLemmas.{operation-stop, plain-done}
+use Rattle.vm_state.specs.Views.{state_of}
+use Rattle.machine_cycles.proofs.cycling.plain_operation.Goals as goal
+
+pub returns-in_err-before-clause-ran : goal.returns-in_err-before-clause-ran
+returns-in_err-before-clause-ran c =
+    ran-late c.args.setting.now (Do c.args.item.now) c.args.runner.now c.in_err-before.ensures.1 (search rules)
+
+pub returns-in-Err-clause-ran : goal.returns-in-Err-clause-ran
+returns-in-Err-clause-ran c =
+    operation-stop c.args.setting.now c.args.item.now c.args.runner.now.state c.in-Err.stop (state_of c.stepped.new.runner.state)
+    c.in_ok-before.before c.stop_at.result
+    c.in_ok-before.ensures c.stop_at.ensures c.in-Err.ensures.step
+
+pub returns-clause-ran : goal.returns-clause-ran
+returns-clause-ran c =
+    plain-done c.args.setting.now c.args.item.now c.args.runner.now.state c.requires.plain
+    c.in_ok-before.before c.top_of-top.result
+    c.in_ok-before.ensures c.in_default.ensures.step c.top_of-top.ensures
+    (rw c.in_default.ensures.log at c.in_ok-push_plain.ensures.ok)
