@@ -4,7 +4,7 @@
 # comparing the buses, and extracting the evidence with its text.
 #
 # `parts.sh CASE` takes a program of sources.sh, `all` where there is none. Prints the least time of each part in
-# microseconds and their ratio, which is to be at most 1.5. TURNS is how often the source's outer body is repeated, RUNS how often both
+# microseconds and their ratio, which is to be at most 1.0. TURNS is how often the source's outer body is repeated, RUNS how often both
 # run. The program over the crates is made in a temporary folder, or is PARTS, where that is given; KEEP names a copy of it to keep.
 # What earlier checks left in the crates' folders out/ is used; with that, proving the program takes some minutes.
 set -e
@@ -218,7 +218,7 @@ least() {
     cut -d' ' -f"$2" "$1.times" | sort -n | head -1
 }
 show() {
-    echo "$case: $1: plain Rust $2 us, the crates $3 us, ratio $(echo "scale=2; $3 / $2" | bc) of at most 1.5"
+    echo "$case: $1: plain Rust $2 us, the crates $3 us, ratio $(echo "scale=2; $3 / $2" | bc) of at most 1.0"
 }
 show assembling "$(least fill 1)" "$(least crates 1)"
 show executing "$(least fill 2)" "$(least crates 2)"

@@ -71,17 +71,17 @@ round_room k m room some enough =
     omega (arith, start, end, length-take m room, enough)
 
 -- the rounds so far, and one more
-pub round_more : {A : Type 0} (k to : ℕ) (xs : List A) → k * 4096 < length xs → to ≡ min (k * 4096 + 4096) (length xs)
-    → take ((k + 1) * 4096) xs ≡ take (k * 4096) xs ++ take (to - k * 4096) (drop (k * 4096) xs)
+pub round_more : {A : Type 0} (k to : ℕ) (xs : List A) → k * 1024 < length xs → to ≡ min (k * 1024 + 1024) (length xs)
+    → take ((k + 1) * 1024) xs ≡ take (k * 1024) xs ++ take (to - k * 1024) (drop (k * 1024) xs)
 round_more k to xs inside end =
-    let more : (k + 1) * 4096 ≡ k * 4096 + 4096 = omega arith in
-    let part : take 4096 (drop (k * 4096) xs) ≡ take (to - k * 4096) (drop (k * 4096) xs) = elim (cases_lt (k * 4096 + 4096) (length xs)) [
-      | inl low ↦ let e : 4096 ≡ to - k * 4096 = omega (arith, low, end) in ap (λ n. take n (drop (k * 4096) xs)) e
+    let more : (k + 1) * 1024 ≡ k * 1024 + 1024 = omega arith in
+    let part : take 1024 (drop (k * 1024) xs) ≡ take (to - k * 1024) (drop (k * 1024) xs) = elim (cases_lt (k * 1024 + 1024) (length xs)) [
+      | inl low ↦ let e : 1024 ≡ to - k * 1024 = omega (arith, low, end) in ap (λ n. take n (drop (k * 1024) xs)) e
       | inr high ↦
-          take_all 4096 (drop (k * 4096) xs) (omega (arith, high, length-drop (k * 4096) xs))
-          ∙ sym (take_all (to - k * 4096) (drop (k * 4096) xs) (omega (arith, high, end, length-drop (k * 4096) xs)))
+          take_all 1024 (drop (k * 1024) xs) (omega (arith, high, length-drop (k * 1024) xs))
+          ∙ sym (take_all (to - k * 1024) (drop (k * 1024) xs) (omega (arith, high, end, length-drop (k * 1024) xs)))
     ] in
-    ap (λ n. take n xs) more ∙ take-add (k * 4096) 4096 xs ∙ ap (λ p. take (k * 4096) xs ++ p) part
+    ap (λ n. take n xs) more ∙ take-add (k * 1024) 1024 xs ∙ ap (λ p. take (k * 1024) xs ++ p) part
 
 -- the state that stands for a permutation
 pub state_of_index : (constants : List ℕ) (perms : List Perm) (states : List (List (List ℕ))) (i : ℕ) (state : List (List ℕ)) (perm : Perm)

@@ -30,7 +30,7 @@ pub struct Chips {
 }
 
 /// The small tables that answer the requests of a main table. The range table has the limbs of
-/// memory's rows besides what is asked. No permutation is computed that is kept; the others are in rounds of at most 4,096, each in
+/// memory's rows besides what is asked. No permutation is computed that is kept; the others are in rounds of at most 1,024, each in
 /// so many pieces at once, and each piece of each round goes through the gate with its number as it begins.
 pub fn fill_chips<R: Threads + Sync, G: Gate>(
     rt: &R,

@@ -16,8 +16,8 @@ use vm_field::{Felt, Memory, known_elements};
 use vm_io::Gate;
 use vm_table::Table;
 
-/// How many permutations a round has at most, so that the room for their states does not grow with the run.
-pub(crate) const ROUND: usize = 4096;
+/// How many permutations a round has at most: so few that their states, of 768 bytes each, stay in a cache until they are rows.
+pub(crate) const ROUND: usize = 1024;
 
 /// Eight rows for each permutation: the state before it and behind each round. They come in rounds of permutations, each of them
 /// filled in so many pieces, of which each goes through the gate.

@@ -288,7 +288,7 @@ fn numbered(alloc: Global, count: u32) -> Result<Vec<Perm>, Memory> {
     Ok(perms)
 }
 
-// Behind 4,096 permutations comes a round of one more: each piece enters in both, also where it has none.
+// Behind 1,024 permutations comes a round of one more: each piece enters in both, also where it has none.
 #[test]
 fn each_piece_enters_once_a_round(rt: HostRuntime) -> Result<(), Fail> {
     let counter = Counter {
@@ -310,7 +310,7 @@ fn each_piece_enters_once_a_round(rt: HostRuntime) -> Result<(), Fail> {
         assert!(rt; gate.entered[piece].load(Ordering::SeqCst) == 2);
     }
     assert!(rt; gate.entered[3].load(Ordering::SeqCst) == 0);
-    for number in [0, 1365, 1366, ROUND - 1, ROUND] {
+    for number in [0, 341, 342, ROUND - 1, ROUND] {
         assert!(rt; cell(&table, 8 * number, 14) == Some(number as u64));
         let start = perm(true, false, false, Felt::from_u32(number as u32)).start;
         let behind = permute(&zeros(), start);

@@ -1,5 +1,5 @@
 -- The rows of events, one by one.
-use Rattle.std.proofs.Common.{◌≡◌, ℕ, ◌+◌, ◌^◌, ◌<◌, ◌≤◌, List, [], ◌∷◌, ◌++◌, length, get_or, drop, slice_get, slice_index, unwrap_or, sym, refl, ap, ◌∙◌, append_assoc, arith}
+use Rattle.std.proofs.Common.{◌≡◌, ℕ, ◌+◌, ◌^◌, ◌<◌, ◌≤◌, List, [], ◌∷◌, ◌++◌, length, get_or, drop, slice_index, sym, refl, ap, ◌∙◌, append_assoc, arith}
 use Rattle.std.proofs.lemmas.List.{drop_all}
 use Rattle.std.proofs.lemmas.List.Elements.{All-head}
 use Rattle.machine_cycles.specs.declared.event.Event.{Event}
@@ -9,7 +9,8 @@ use Rattle.complete_rows.specs.Filling.{deep_before, fill, halted, row_of, rows_
 use Rattle.vm_ops.specs.Codes.{kind_of}
 use Rattle.complete_rows.specs.Numbers.{HasSmallNumbers}
 use Rattle.complete_rows.specs.Turns.{repeats, repeats_by}
-use Rattle.fill_main.specs.Turns.{turns_of}
+use Rattle.vm_ops.specs.declared.kind.Kind.{Kind}
+use Rattle.fill_main.specs.Turns.{turns_by, turns_of}
 use Rattle.fill_requests.proofs.LoopLemmas.{suffix}
 
 fill-more : (last : Visible) (d : Decoder) (e : Event) (later : List Event)
@@ -65,20 +66,22 @@ decoder-step d after events i e within is moved =
 pub decoder-end : (d : Decoder) (events : List Event) (i : ℕ) → length events ≤ i → d ≡ decoder_after d (drop i events)
 decoder-end d events i past = sym (ap (decoder_after d) (drop_all i events past) ∙ decoder-none d)
 
-turns-more : (e : Event) (later : List Event) → turns_of (e ∷ later) ≡ slice_index (repeats later) 0 ∷ turns_of later
+turns-more : (e : Event) (later : List Event) → turns_of (e ∷ later) ≡ turns_by (kind_of e.op) (repeats later) (turns_of later)
 unfolding turns_of
 turns-more e later = refl
 
 -- the turns from a place on
 pub turns-here : (events : List Event) (i : ℕ) (e : Event) → i < length events → e ≡ get_or events i e
-    → turns_of (drop i events) ≡ slice_index (repeats (drop (i + 1) events)) 0 ∷ turns_of (drop (i + 1) events)
+    → turns_of (drop i events) ≡ turns_by (kind_of e.op) (repeats (drop (i + 1) events)) (turns_of (drop (i + 1) events))
 turns-here events i e within is = ap turns_of (suffix events i e within is) ∙ turns-more e (drop (i + 1) events)
 
-pub turn-first : (turns : List ℕ) (n : ℕ) (later : List ℕ) (turn : ℕ) → turns ≡ n ∷ later → turn ≡ unwrap_or (slice_get turns 0) 0 → turn ≡ n
-turn-first turns n later turn are is = is ∙ ap (λ (xs : List ℕ). unwrap_or (slice_get xs 0) 0) are
-
-pub turns-left : (turns left : List ℕ) (n : ℕ) (later : List ℕ) → turns ≡ n ∷ later → left ≡ drop 1 turns → left ≡ later
-turns-left turns left n later are is = is ∙ ap (λ (xs : List ℕ). drop 1 xs) are
+-- the turns from an event of a kind on
+pub turns-known : (turns : List ℕ) (events : List Event) (i : ℕ) (e : Event) (kind : Kind) → i < length events → e ≡ get_or events i e
+    → turns ≡ turns_of (drop i events) → kind ≡ kind_of e.op
+    → turns ≡ turns_by kind (repeats (drop (i + 1) events)) (turns_of (drop (i + 1) events))
+turns-known turns events i e kind within is are known =
+    are ∙ turns-here events i e within is
+    ∙ ap (λ k. turns_by k (repeats (drop (i + 1) events)) (turns_of (drop (i + 1) events))) (sym known)
 
 repeats-more : (e : Event) (later : List Event) → repeats (e ∷ later) ≡ repeats_by (kind_of e.op) (repeats later)
 unfolding repeats

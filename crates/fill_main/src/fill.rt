@@ -7,7 +7,7 @@ ghost use Rattle.complete_rows.specs.Turns.{respans};
 
 use crate::inverses::Inverses;
 use crate::row::write_row;
-use crate::turns::turns_of;
+use crate::turns::{take_turns, turns_of};
 use air_kit::Requests;
 use fill_decoder::{Decoder, into_elements};
 use fill_requests::{no_requests, push_requests, respans, seen_behind};
@@ -43,10 +43,10 @@ pub(crate) fn fill(
     for i in 0..count {
         let event = events.event(i);
         let next = seen_behind(last, events, i + 1);
-        let turn = turns.pop().unwrap_or(0);
+        let kind = kind_of(event.op);
+        let turn = take_turns(&mut turns, kind);
         write_row(&mut row, &mut inverses, &decoder, &event, &next, turn);
         table.push_row(&row)?;
-        let kind = kind_of(event.op);
         let batches = batches_of(alloc, kind, events, i + 1)?;
         decoder.advance(&event, kind, batches.len())?;
         push_requests(

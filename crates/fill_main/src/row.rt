@@ -9,7 +9,8 @@ ghost use Rattle.vm_ops.specs.Values.{bit_of};
 ghost use Rattle.complete_rows.specs.Lines.{code_bit};
 ghost use Rattle.complete_rows.specs.Turns.{repeats};
 ghost use Rattle.complete_rows.specs.Witnesses.{operation_witnesses};
-ghost use Rattle.vm_ops.specs.Codes.{is_ordinary_op};
+ghost use Rattle.vm_ops.specs.Codes.{is_ordinary_op, kind_of};
+ghost use Rattle.vm_ops.specs.declared.kind.Kind.TheVariants as kinds;
 ghost use Rattle.fill_requests.specs.Parts.{eight_of, four_of, sixteen_of};
 ghost use Rattle.fill_decoder.specs.Bounds.{ShowsElements};
 ghost use Rattle.fill_decoder.specs.Views.{decoder_in};
@@ -25,8 +26,8 @@ use vm_field::Felt;
 use vm_ops::{Kind, kind_of};
 use vm_table::column;
 
-/// Writes the row of an event before the state behind it, where its loop's body is repeated so often,
-/// over the row that stands there: each cell is written.
+/// Writes the row of an event before the state behind it, over the row that stands there: each cell is
+/// written. Where the event is a LOOP, its body is repeated so often.
 pub(crate) fn write_row(
     row: &mut [Felt; 65],
     inverses: &mut Inverses,
@@ -38,7 +39,7 @@ pub(crate) fn write_row(
     requires decoder { ShowsElements (decoder_in decoder.now) }
     requires depth { event.now.before.depth < prime }
     requires turns { turns < prime }
-    ensures { (later : List shown.Event) → turns ≡ slice_index (repeats later) 0
+    ensures { (later : List shown.Event) → (kind_of event.now.op ≡ kinds.Loop → turns ≡ slice_index (repeats later) 0)
         → row.new ≡ row_of (decoder_in decoder.now) event.now next.now later }
 {
     let kind = kind_of(event.op);
@@ -161,7 +162,7 @@ fn witness_cells(
 ) -> [Felt; 4]
     requires next { decoder.now.next < prime }
     requires turns { turns < prime }
-    ensures { (later : List shown.Event) → turns ≡ slice_index (repeats later) 0
+    ensures { (later : List shown.Event) → (kind ≡ kinds.Loop → turns ≡ slice_index (repeats later) 0)
         → result ≡ four_of (witnesses_by kind (decoder_in decoder.now) event.now next.now later) }
 {
     let zero = Felt::ZERO;

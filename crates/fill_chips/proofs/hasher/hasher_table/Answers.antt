@@ -17,27 +17,27 @@ loop-k-preserved g c =
     let constants = c.args.permutations.now in
     let perms = c.args.perms.now in
     let k = c.loop-k.k in
-    let inside : k * 4096 < length perms = omega arith in
+    let inside : k * 1024 < length perms = omega arith in
     let more = round_more k c.min-to.result perms inside c.min-to.ensures in
-    let round = take (c.min-to.result - k * 4096) (drop (k * 4096) perms) in
+    let round = take (c.min-to.result - k * 1024) (drop (k * 1024) perms) in
     record {
       rows =
           c.in_ok-add_round.ensures.rows ∙ ap (λ rows. rows ++ rows_of_perms constants round) c.loop-k.invariant.rows
-          ∙ sym (rows-append constants (take (k * 4096) perms) round) ∙ ap (rows_of_perms constants) (sym more);
+          ∙ sym (rows-append constants (take (k * 1024) perms) round) ∙ ap (rows_of_perms constants) (sym more);
       states =
           subst (All (λ p. IsState p.start)) (sym more)
-          (All-append (λ p. IsState p.start) (take (k * 4096) perms) round c.loop-k.invariant.states c.in_ok-add_round.ensures.states);
+          (All-append (λ p. IsState p.start) (take (k * 1024) perms) round c.loop-k.invariant.states c.in_ok-add_round.ensures.states);
       room = c.add_round.ensures.room ∙ c.loop-k.invariant.room;
     }
 
 pub returns-clause-rows : goal.returns-clause-rows
 returns-clause-rows g c =
     let perms = c.args.perms.now in
-    let all : length perms ≤ c.loop-k.k * 4096 = omega arith in
-    c.loop-k.invariant.rows ∙ ap (rows_of_perms c.args.permutations.now) (take_all (c.loop-k.k * 4096) perms all)
+    let all : length perms ≤ c.loop-k.k * 1024 = omega arith in
+    c.loop-k.invariant.rows ∙ ap (rows_of_perms c.args.permutations.now) (take_all (c.loop-k.k * 1024) perms all)
 
 pub returns-clause-states : goal.returns-clause-states
 returns-clause-states g c =
     let perms = c.args.perms.now in
-    let all : length perms ≤ c.loop-k.k * 4096 = omega arith in
-    subst (All (λ p. IsState p.start)) (take_all (c.loop-k.k * 4096) perms all) c.loop-k.invariant.states
+    let all : length perms ≤ c.loop-k.k * 1024 = omega arith in
+    subst (All (λ p. IsState p.start)) (take_all (c.loop-k.k * 1024) perms all) c.loop-k.invariant.states

@@ -1,4 +1,4 @@
-use Rattle.std.proofs.Common.{All, ◌≡◌, ℕ, ◌+◌, ◌-◌, ◌^◌, ◌<◌, ◌≤◌, List, ◌++◌, [], drop, length, refl, sym, ap, ◌∙◌, arith, slice_index, subst, get_or, unwrap_or}
+use Rattle.std.proofs.Common.{All, ◌≡◌, ℕ, ◌+◌, ◌-◌, ◌^◌, ◌<◌, ◌≤◌, List, ◌++◌, [], drop, length, refl, sym, ap, ◌∙◌, arith, slice_index, subst, get_or}
 use Rattle.std.proofs.lemmas.List.{length-drop}
 use Rattle.std.proofs.lemmas.List.Elements.{All-get_or}
 use Rattle.vm_field.specs.Limits.{most_cycles}
@@ -12,13 +12,16 @@ use Rattle.complete_rows.specs.Filling.{deep_before, fill, row_of}
 use Rattle.complete_rows.specs.Numbers.{IsU16}
 use Rattle.complete_rows.specs.RunRequests.{accesses_of, bits_of, calls_of, perms_of, ranges_by, ranges_of}
 use Rattle.complete_rows.specs.Turns.{repeats}
+use Rattle.vm_ops.specs.Codes.{kind_of}
+use Rattle.vm_ops.specs.declared.kind.Kind.TheVariants as kinds
+use Rattle.fill_main.specs.Turns.{turns_of}
 use Rattle.fill_requests.proofs.RequestLemmas as ask
 use Rattle.fill_decoder.specs.Bounds.{IsSmall}
 use Rattle.fill_decoder.specs.Views.{decoder_in}
 use Rattle.fill_decoder.proofs.BoundLemmas.{small_room, small_shows, small_start, small_step}
 use Rattle.fill_decoder.proofs.DecoderLemmas.{known}
 use Rattle.complete_rows.proofs.LineLemmas.{few_repeats}
-use Rattle.fill_main.proofs.FillLemmas.{decoder-end, decoder-step, deep-low, rows-end, rows-step, turn-first, turns-here, turns-left, no-repeats, whole}
+use Rattle.fill_main.proofs.FillLemmas.{decoder-end, decoder-step, deep-low, rows-end, rows-step, turns-known, no-repeats, whole}
 use Rattle.fill_main.proofs.fill.fill.Goals as goal
 
 pub new-requires : goal.new-requires
@@ -66,9 +69,9 @@ loop-i-preserved c =
     let added = c.in_ok-push_requests.ensures in
     let invariant = c.loop-i.invariant in
     let next = c.seen_behind-next.ensures in
-    let here = invariant.turns ∙ turns-here events i e (omega arith) is in
-    let turn : c.unwrap_or-turn.result ≡ slice_index (repeats later) 0
-    = turn-first c.loop-i.turns _ _ c.unwrap_or-turn.result here (c.unwrap_or-turn.ensures ∙ ap (λ o. unwrap_or o 0) c.pop.ensures.item) in
+    let here = turns-known c.loop-i.turns events i e c.kind_of-kind.result (omega arith) is invariant.turns c.kind_of-kind.ensures in
+    let turn : kind_of e.op ≡ kinds.Loop → c.take_turns-turn.result ≡ slice_index (repeats later) 0
+    = λ loops. c.take_turns-turn.ensures.are (repeats later) (turns_of later) here (c.kind_of-kind.ensures ∙ loops) in
     let moved = c.in_ok-advance.ensures ∙ known e c.kind_of-kind.result d _ later c.kind_of-kind.ensures
     (λ starts. c.len.ensures.count ∙ ap (λ (xs : List (List ℕ)). length xs) (c.in_ok-batches.ensures.are (c.kind_of-kind.ensures ∙ starts))) in
     record {
@@ -78,7 +81,7 @@ loop-i-preserved c =
           c.in_ok-push_row.ensures.ok moved
           ∙ invariant.rows;
       after = decoder-step d _ events i e (omega arith) is moved ∙ invariant.after;
-      turns = turns-left c.loop-i.turns _ _ _ here c.pop.ensures.left;
+      turns = c.take_turns-turn.ensures.left (repeats later) (turns_of later) here;
       small = small_step d _ events i e (omega arith) is moved invariant.small;
       perms =
           ask.perms-step constants events i e asked.perms _ (omega arith) is
@@ -105,9 +108,8 @@ write_row-requires c =
     let is = subst (λ (x : Event). x ≡ get_or events i x) (sym shown.2) shown.1 in
     let later = drop (i + 1) events in
     let invariant = c.loop-i.invariant in
-    let here = invariant.turns ∙ turns-here events i e (omega arith) is in
-    let turn : c.unwrap_or-turn.result ≡ slice_index (repeats later) 0
-    = turn-first c.loop-i.turns _ _ c.unwrap_or-turn.result here (c.unwrap_or-turn.ensures ∙ ap (λ o. unwrap_or o 0) c.pop.ensures.item) in
+    let here = turns-known c.loop-i.turns events i e c.kind_of-kind.result (omega arith) is invariant.turns c.kind_of-kind.ensures in
+    let turn = c.take_turns-turn.ensures.few (repeats later) (turns_of later) here in
     let most = few_repeats later in
     let few : length events ≤ most_cycles = c.requires.few in
     record {
@@ -163,7 +165,7 @@ returns c =
     let asked = c.loop-i.requests in
     let invariant = c.loop-i.invariant in
     let d = decoder_in c.loop-i.decoder in
-    let row = c.write_row-2.ensures [] no-repeats ∙ ap (λ e. row_of d e last []) c.halted.ensures in
+    let row = c.write_row-2.ensures [] (λ loops. no-repeats) ∙ ap (λ e. row_of d e last []) c.halted.ensures in
     record {
       rows = rows-end last d events i _ c.loop-i.table _ (omega arith) row c.in_ok-push_row-2.ensures.ok ∙ invariant.rows ∙ sym (whole last events);
       requests =

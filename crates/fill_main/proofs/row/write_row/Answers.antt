@@ -1,4 +1,4 @@
-use Rattle.std.proofs.Common.{◌==◌, [], ◌∷◌, length, ap, ◌∙◌}
+use Rattle.std.proofs.Common.{◌==◌, [], ◌∷◌, length, sym, ap, ◌∙◌}
 use Rattle.vm_ops.specs.Codes.{is_ordinary_op}
 use Rattle.vm_ops.specs.Values.{bit_of}
 use Rattle.complete_rows.specs.Filling.{hash_by, in_use_by, line_of, witnesses_by}
@@ -21,4 +21,4 @@ returns c = λ later turn.
     (c.batch_cells.ensures ∙ ap (λ (k : Kind). bit_of (is_ordinary_op e.op) ∷ length d.unread.positions ∷ d.unread.place
     ∷ bit_of (in_use_by k e == 8) ∷ bit_of (in_use_by k e == 4) ∷ bit_of (in_use_by k e == 2) ∷ []) kind)
     c.stack_cells.ensures c.key_cells.ensures
-    (c.witness_cells-witnesses.ensures later turn ∙ ap (λ (k : Kind). four_of (witnesses_by k d e next later)) kind) c.limbs_of.ensures.cells
+    (c.witness_cells-witnesses.ensures later (λ is. turn (sym kind ∙ is)) ∙ ap (λ (k : Kind). four_of (witnesses_by k d e next later)) kind) c.limbs_of.ensures.cells

@@ -1,9 +1,9 @@
-use Rattle.std.proofs.Common.{◌≡◌, ℕ, ◌+◌, ◌-◌, ◌<◌, List, ◌∷◌, drop, length, sym, ap, ap₂, ◌∙◌, arith, slice_index}
+use Rattle.std.proofs.Common.{◌≡◌, ℕ, ◌+◌, ◌-◌, ◌<◌, List, drop, length, sym, ap, ap₂, ◌∙◌, arith, slice_index}
 use Rattle.std.proofs.lemmas.List.{length-drop}
 use Rattle.vm_ops.specs.declared.kind.Kind.{Kind}
 use Rattle.vm_ops.specs.Codes.{kind_of}
 use Rattle.complete_rows.specs.Turns.{repeats, repeats_by}
-use Rattle.fill_main.specs.Turns.{turns_of}
+use Rattle.fill_main.specs.Turns.{turns_by, turns_of}
 use Rattle.complete_rows.proofs.LineLemmas.{few_repeats}
 use Rattle.fill_main.proofs.FillLemmas.{none-behind, repeats-here, turns-here}
 use Rattle.fill_main.proofs.turns.turns_of.Goals as goal
@@ -26,10 +26,11 @@ loop-i-preserved c =
     let turns = c.loop-i.invariant.turns ∙ ap (λ n. turns_of (drop n events)) next in
     record {
       counts =
-          c.in_ok-count.ensures ∙ ap₂ (λ (k : Kind) (xs : List ℕ). repeats_by k xs) (c.kind_of.ensures ∙ ap kind_of shown.2) counts
+          c.in_ok-count.ensures ∙ ap₂ (λ (k : Kind) (xs : List ℕ). repeats_by k xs) (c.kind_of-kind.ensures ∙ ap kind_of shown.2) counts
           ∙ sym (repeats-here events j e within shown.1);
       turns =
-          c.in_ok-push.ensures ∙ ap₂ (λ (n : ℕ) (xs : List ℕ). n ∷ xs) (c.front.ensures ∙ ap (λ xs. slice_index xs 0) counts) turns
+          c.in_ok-add_turns.ensures ∙ ap (λ (k : Kind). turns_by k c.loop-i.counts c.loop-i.turns) (c.kind_of-kind.ensures ∙ ap kind_of shown.2)
+          ∙ ap₂ (λ (xs ys : List ℕ). turns_by (kind_of e.op) xs ys) counts turns
           ∙ sym (turns-here events j e within shown.1);
     }
 
