@@ -4,20 +4,45 @@
     audit.py STATUS PARAMS TABLE STATEMENT EVIDENCE
 
 prints `consistent`, or says what is not. STATUS is that of the `check` which wrote the evidence, as `$?` behind it: where it is not 0
-nothing was written, and a file of that name is evidence of another table. Of a run it computes the digest of the tree, and compares it with the statement's, and the
-cycles with the rows of the main table; where the tree is one span, with the cycles of its batches, too; where it is that of a source,
-no block of it may be opaque. Of a pair, or a clash of the file, it reads the two hashes in the table: their inputs differ, and their
-digests do not; of a clash with a block of the source, the one hash that the table has. It runs nothing of the program;
-docs/FORMATS.md has the files.
+nothing was written, and a file of that name is evidence of another table. Of a run it computes the digest of the tree, and compares it
+with the statement's, and the cycles with the rows of the main table; where the tree is one span, with the cycles of its batches, too;
+where it is that of a source, no block of it may be opaque. Of a pair, or a clash of the file, it reads the two hashes in the table: their
+inputs differ, and their digests do not; of a clash with a block of the source, the one hash that the table has. It runs nothing of the
+program; docs/FORMATS.md has the files.
 """
-import json
+import re
 import sys
 
-from rpo import constants_in, digest_of, word_text
-from tables import tables_in
+from files import params_in, run, statement_in, table_in, text_in
+from rpo import digest_of, word_text
+from tables import tables_of
 
 DOMAINS = {"join": 70, "split": 71, "loop": 72, "call": 74, "syscall": 75, "dyn": 80}
 PUSH = 69
+# Blocks nest up to 1,024 deep, and each is read by a call of its own.
+DEEPEST = 5000
+
+
+class NoEvidence(Exception):
+    """A line that evidence does not have there."""
+
+
+class Lines:
+    """The lines of evidence, one after the other."""
+
+    def __init__(self, text):
+        self.lines, self.number = text.splitlines(), 0
+
+    def has_more(self):
+        return self.number < len(self.lines)
+
+    def words(self, form):
+        """The words of the next line, which is to be of this form."""
+        line = self.lines[self.number] if self.has_more() else None
+        self.number += 1
+        if line is None or not re.fullmatch(form, line):
+            raise NoEvidence(f"line {self.number} is {'missing' if line is None else 'none of evidence'}")
+        return line.split()
 
 
 def word_in(text):
@@ -26,11 +51,11 @@ def word_in(text):
 
 def tree_in(lines):
     """A block: its kind, and its word, its batches or its children."""
-    kind, *rest = next(lines).split()
+    kind, *rest = lines.words("opaque [0-9a-f]{64}|(?:span|dyn) [0-9]+|join|split|loop|call|syscall")
     if kind == "opaque":
         return kind, word_in(rest[0])
     if kind == "span":
-        return kind, [[int(element) for element in next(lines).split()[1:]] for _ in range(int(rest[0]))]
+        return kind, [[int(element) for element in lines.words("batch(?: [0-9]+){8}")[1:]] for _ in range(int(rest[0]))]
     if kind == "dyn":
         return kind, [tree_in(lines) for _ in range(int(rest[0]))]
     return kind, [tree_in(lines) for _ in range(2 if kind in ("join", "split") else 1)]
@@ -81,21 +106,25 @@ def operations_in(batch):
 
 
 def run_faults(constants, tables, statement, lines, is_whole):
-    cycles, tape = int(next(lines).split()[1]), next(lines).split()
+    cycles = int(lines.words("cycles [0-9]+")[1])
+    lines.words("tape(?: [0-9]+)*")
     tree = tree_in(lines)
-    if next(lines, None) is not None:
+    if lines.has_more():
         yield "lines behind the tree"
     if is_whole and has_opaque(tree):
         yield "a block of the source is opaque"
-    if tape[0] != "tape":
-        yield "no tape"
-    if word_text(digest_in(constants, tree)) != statement["digest"]:
+    if word_text(digest_in(constants, tree)) != str(statement["digest"]).lower():
         yield "the tree has another digest"
     yield from dynamic_faults(constants, tree)
     if cycles + 1 != len(tables[0]):
         yield "the table has other rows"
     if tree[0] == "span" and cycles != sum(map(operations_in, tree[1])) + len(tree[1]) + 1:
         yield "the span has other cycles"
+
+
+def begins_at(table, place):
+    """Whether a hash begins at a place of the hasher's table, counted from 1."""
+    return place % 8 == 1 and place <= len(table) and not any(table[place - 1][:2])
 
 
 def hash_at(table, place):
@@ -105,18 +134,20 @@ def hash_at(table, place):
     while True:
         blocks.append(table[row][7:15])
         end = table[row + 7]
-        if not end[2]:
+        if not end[2] or row + 8 >= len(table):
             return (start, blocks), end[7:11]
         row += 8
 
 
 def node_faults(tables, address):
-    mode, goes_on = tables[2][address - 1][:2]
-    if address % 8 != 1 or mode or goes_on:
+    if not begins_at(tables[2], address):
         yield "no hash begins there"
 
 
 def pair_faults(tables, first, second):
+    if not begins_at(tables[2], first) or not begins_at(tables[2], second):
+        yield "no hash begins there"
+        return
     (one, of_one), (other, of_other) = hash_at(tables[2], first), hash_at(tables[2], second)
     if first >= second or one == other:
         yield "the hashes have one input"
@@ -125,23 +156,26 @@ def pair_faults(tables, first, second):
 
 
 def faults(params, table, statement, evidence):
-    with open(statement) as file:
-        said = json.load(file)
-    with open(evidence) as file:
-        lines = iter(file.read().splitlines())
-    first = next(lines).split()
-    if first[0] == "pair":
-        return pair_faults(tables_in(table), int(first[1]), int(first[2]))
-    if first[:2] == ["clash", "file"] and first[3] == "file":
-        return pair_faults(tables_in(table), int(first[2]), int(first[4]))
-    if first[:2] == ["clash", "file"]:
-        return node_faults(tables_in(table), int(first[2]))
-    return run_faults(constants_in(params), tables_in(table), said, lines, first == ["ran"])
+    """What is not as it should be; a file that is missing or not of its form ends the script."""
+    constants, tables, said = params_in(params), tables_of(table_in(table)), statement_in(statement)
+    lines = Lines(text_in(evidence))
+    sys.setrecursionlimit(max(sys.getrecursionlimit(), DEEPEST))
+    try:
+        kind, *places = lines.words("run|ran|pair [0-9]+ [0-9]+|clash file [0-9]+ (?:file|node) [0-9]+")
+        numbers = [int(place) for place in places if place.isdecimal()]
+        if kind == "pair" or "file" in places[1:]:
+            yield from pair_faults(tables, *numbers)
+        elif kind == "clash":
+            yield from node_faults(tables, numbers[0])
+        else:
+            yield from run_faults(constants, tables, said, lines, kind == "ran")
+    except NoEvidence as error:
+        sys.exit(f"{evidence}: {error}")
 
 
 def main():
     words = sys.argv[1:]
-    if len(words) != 5 or not words[0].isdecimal():
+    if len(words) != 5 or not re.fullmatch("[0-9]+", words[0]):
         print("usage: audit.py STATUS PARAMS TABLE STATEMENT EVIDENCE", file=sys.stderr)
         sys.exit(2)
     if int(words[0]) != 0:
@@ -152,4 +186,4 @@ def main():
 
 
 if __name__ == "__main__":
-    main()
+    run(main)

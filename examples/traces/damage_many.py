@@ -10,7 +10,8 @@ chosen by SEED, ten thousand where TIMES is missing.
 """
 import sys
 
-from judging import try_many
+from files import run
+from judging import Change, try_many
 from tables import HEAD
 
 
@@ -57,7 +58,11 @@ DAMAGES = [replaced, overwritten, copied, cut, shortened, lengthened]
 def damaged(content, choice):
     """The bytes of a table file with one damage, of its head in one of eight."""
     place = choice.randrange(HEAD) if choice.randrange(8) == 0 else choice.randrange(len(content))
-    return choice.choice(DAMAGES)(content, place, choice)
+    return Change(choice.choice(DAMAGES)(content, place, choice))
 
 
-try_many("damage_many.py", sys.argv[1:], damaged, 10000)
+def main():
+    try_many("damage_many.py", sys.argv[1:], damaged, 10000)
+
+
+run(main)

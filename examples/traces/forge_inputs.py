@@ -4,17 +4,20 @@
     forge_inputs.py MIDEN PARAMS TABLE STATEMENT [TIMES [SEED]]
 
 MIDEN is the program, as ./miden. TABLE has to be accepted for STATEMENT as it is. What is changed is the depth or the key of the first
-row, the key of a cell that is left, or an input or an output of the statement; or the statement has one input more or less. Each answer
-has to be a refusal, or `accepted` with evidence that audit.py finds consistent. The changes are chosen by SEED, a thousand where TIMES is
-missing.
+row, the key of a cell that is left, or an input or an output of the statement; or the statement has one input more or less, or one output.
+Each answer has to be a refusal, that the statement is malformed, or `accepted` with evidence that audit.py finds consistent. It prints
+each change that was accepted, then how often each answer came, and ends with 1 at the first that is none of these. The changes are chosen
+by SEED, a thousand where TIMES is missing.
 """
+import copy
 import json
 import struct
 import sys
 
-from judging import try_many
+from files import run, statement_in
+from judging import Change, try_many
 from rpo import P
-from tables import HEAD, place_of
+from tables import COLUMNS, counts_in, place_of
 
 
 def other(choice, old):
@@ -23,49 +26,51 @@ def other(choice, old):
     return new if new != old else (old + 2) % P
 
 
-def with_cell(content, place, choice):
-    changed = bytearray(content)
-    struct.pack_into("<Q", changed, place, other(choice, struct.unpack_from("<Q", content, place)[0]))
-    return bytes(changed)
+def with_cell(content, table, row, column, choice):
+    """Another value in a cell, whose column is given by its number."""
+    changed, place = bytearray(content), place_of(content, table, row, column)
+    new = other(choice, struct.unpack_from("<Q", content, place)[0])
+    struct.pack_into("<Q", changed, place, new)
+    return Change(bytes(changed), f"{table} row {row} {COLUMNS[table][column]}={new}")
 
 
-def restated(statement, choice):
+def restated(content, statement, choice):
     """The text of another statement."""
-    claim = json.loads(statement)
+    claim = copy.deepcopy(statement)
     name = choice.choice(["inputs", "inputs", "outputs"])
     cells, kind = claim[name], choice.randrange(8)
+    what = f"{name} as they are"
     if kind == 0 and cells:
-        del cells[choice.randrange(len(cells))]
+        place = choice.randrange(len(cells))
+        what = f"{name} without number {place}"
+        del cells[place]
     elif kind == 1:
-        cells.insert(choice.randrange(len(cells) + 1), choice.randrange(P))
+        place, new = choice.randrange(len(cells) + 1), choice.randrange(P)
+        what = f"{name} with {new} in front of number {place}"
+        cells.insert(place, new)
     elif cells:
         place = choice.randrange(len(cells))
         cells[place] = other(choice, cells[place])
-    return json.dumps(claim, separators=(",", ":"))
+        what = f"{name} with {cells[place]} as number {place}"
+    return Change(content, what, json.dumps(claim, separators=(",", ":")))
 
 
 def main():
-    if len(sys.argv) < 5:
+    if not 5 <= len(sys.argv) <= 7:
         print("usage: forge_inputs.py MIDEN PARAMS TABLE STATEMENT [TIMES [SEED]]", file=sys.stderr)
         sys.exit(2)
-    with open(sys.argv[4], encoding="utf-8") as file:
-        statement = file.read()
+    statement = statement_in(sys.argv[4])
 
     def forged(content, choice):
-        left = rows_of_left(content)
+        left = counts_in(content)[-1]
         kind = choice.randrange(4)
         if kind == 0:
-            return with_cell(content, place_of(content, "main", 0, choice.choice([46, 47])), choice)
+            return with_cell(content, "main", 0, choice.choice([46, 47]), choice)
         if kind == 1 and left > 0:
-            return with_cell(content, place_of(content, "left", choice.randrange(left), 0), choice)
-        return content, restated(statement, choice)
+            return with_cell(content, "left", choice.randrange(left), 0, choice)
+        return restated(content, statement, choice)
 
     try_many("forge_inputs.py", sys.argv[1:], forged, 1000)
 
 
-def rows_of_left(content):
-    return struct.unpack_from("<I", content, HEAD - 4)[0]
-
-
-if __name__ == "__main__":
-    main()
+run(main)

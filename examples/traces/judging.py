@@ -2,14 +2,19 @@
 import collections
 import os
 import random
+import re
 import subprocess
 import sys
 import tempfile
 
 from audit import faults
+from files import table_in
 
 ACCEPTED = "accepted, and consistent"
 REFUSED, MALFORMED = 1, 10
+
+# A changed file: the bytes of the table file, what was changed in it, and another statement's text where that was.
+Change = collections.namedtuple("Change", ["content", "what", "statement"], defaults=[None, None])
 
 
 def answer(files, table):
@@ -37,31 +42,31 @@ def show_progress(done, times):
 
 
 def try_many(script, words, changed, times):
-    """Has files checked that `changed` makes of the bytes of an accepted one and of a choice, and prints how often each answer came. Where
-    it makes a pair, the second is another statement's text."""
-    if not 4 <= len(words) <= 6 or not all(word.isdecimal() for word in words[4:5]):
+    """Has files checked that `changed` makes of the bytes of an accepted one and of a choice. It prints what was changed in each that is
+    accepted still, where that is told, and then how often each answer came."""
+    if not 4 <= len(words) <= 6 or not all(re.fullmatch("[0-9]+", word) for word in words[4:5]):
         print(f"usage: {script} MIDEN PARAMS TABLE STATEMENT [TIMES [SEED]]", file=sys.stderr)
         sys.exit(2)
     miden, params, table, statement = words[:4]
     times, choice = int((words[4:] or [times])[0]), random.Random((words[5:] or ["1"])[0])
-    with open(table, "rb") as file:
-        content = file.read()
+    content = table_in(table)
     answers = collections.Counter()
     with tempfile.TemporaryDirectory(dir=".") as folder:
         name, claim, evidence = (os.path.join(os.path.relpath(folder), it) for it in ("changed", "claim", "evidence"))
-        files = miden, params, statement, evidence
-        honest = answer(files, table)
+        honest = answer((miden, params, statement, evidence), table)
         if honest != ACCEPTED:
             sys.exit(f"{table} is not accepted as it is: {honest}")
         for done in range(times):
-            made = changed(content, choice)
-            rows, text = made if isinstance(made, tuple) else (made, None)
+            change = changed(content, choice)
             with open(name, "wb") as file:
-                file.write(rows)
-            if text is not None:
+                file.write(change.content)
+            if change.statement is not None:
                 with open(claim, "w", encoding="utf-8") as file:
-                    file.write(text)
-            answers[answer((miden, params, statement if text is None else claim, evidence), name)] += 1
+                    file.write(change.statement)
+            kind = answer((miden, params, statement if change.statement is None else claim, evidence), name)
+            answers[kind] += 1
             show_progress(done + 1, times)
+            if kind == ACCEPTED and change.what is not None:
+                print("accepted", change.what)
     for kind, count in sorted(answers.items()):
         print(count, kind)

@@ -10,18 +10,19 @@ has the columns, docs/FORMATS.md the files.
 """
 import json
 import os
+import sys
 
-from rpo import P, constants_in, permutation, word_text
+from files import params_in, run
+from rpo import P, permutation, word_text
 from tables import COLUMNS, written
 
 HERE = os.path.dirname(os.path.abspath(__file__))
-CONSTANTS = constants_in(os.path.join(HERE, "../params/derived"))
 CODES = {"noop": 0, "add": 37, "push": 69, "span": 73, "end": 76, "halt": 79}
 
 
-def permutation_rows(state):
+def permutation_rows(constants, state):
     """The eight rows of a permutation of a hash of one block: three flags and twelve elements."""
-    return [[0, 0, 0] + row for row in permutation(CONSTANTS, state)]
+    return [[0, 0, 0] + row for row in permutation(constants, state)]
 
 
 def range_rows(asked):
@@ -47,11 +48,11 @@ def main_row(clock, code, level, cells, depth, key, **named):
     return [named.get(column, 0) % P for column in COLUMNS["main"]]
 
 
-def fill():
+def fill(constants):
     items = [("push", 2), ("push", 3), ("add", None), ("push", 7), ("noop", None)]
     group = sum(CODES[name] * 128**i for i, (name, _) in enumerate(items))
     batch = [group, 2, 3, 7, 0, 0, 0, 0]
-    hasher = permutation_rows([0, 0, 0, 0] + batch)
+    hasher = permutation_rows(constants, [0, 0, 0, 0] + batch)
     digest = hasher[7][7:11]
     stack, keys, taken, rows = [0] * 16, [], 1, []
     start = {f"h{j}": element for j, element in enumerate(batch)}
@@ -79,7 +80,14 @@ def write(name, tables, digest, outputs):
         file.write(json.dumps(statement, separators=(",", ":")))
 
 
-tables, digest, outputs = fill()
-write("sum", tables, digest, outputs)
-tables[0][-1][COLUMNS["main"].index("s0")] = outputs[0] = 8
-write("forged", tables, digest, outputs)
+def main():
+    if sys.argv[1:]:
+        print("usage: make.py", file=sys.stderr)
+        sys.exit(2)
+    tables, digest, outputs = fill(params_in(os.path.join(HERE, "../params/derived")))
+    write("sum", tables, digest, outputs)
+    tables[0][-1][COLUMNS["main"].index("s0")] = outputs[0] = 8
+    write("forged", tables, digest, outputs)
+
+
+run(main)

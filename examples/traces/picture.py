@@ -11,6 +11,8 @@ said in docs/CONSTRAINTS.md, "Buses". Nothing else is read, and nothing is check
 import re
 import sys
 
+from files import run
+
 ROW = re.compile(r"clk (\d+) (?:(\?) (\d+)|(\w+)) depth (\d+) stack \d+ \d+ \d+ \d+ addr \d+")
 
 # The colours of blocks, by the operation that starts one, and of the classes of operations; those that no class names only move cells,
@@ -135,11 +137,13 @@ class Picture:
 
 def main():
     if sys.argv[1:]:
-        sys.exit("usage: picture.py <SHOWN >PICTURE")
+        print("usage: picture.py <SHOWN >PICTURE", file=sys.stderr)
+        sys.exit(2)
+    sys.stdin.reconfigure(errors="replace")
     rows = rows_in(sys.stdin)
     if not rows:
         sys.exit("no line of a row was told; give what `miden_show show TABLE` prints")
     print("\n".join(Picture(rows).drawn()))
 
 
-main()
+run(main)

@@ -1,12 +1,9 @@
 """The permutation and the hash of blocks (docs/HASH.md), for the scripts beside this file. They use nothing of the program."""
 P = 2**64 - 2**32 + 1
+# How many constants the permutation has.
+CONSTANTS = 168
 FIRST_ROW = [7, 23, 8, 26, 13, 10, 9, 7, 6, 22, 21, 8]
 SEVENTH_ROOT = 10540996611094048183
-
-
-def constants_in(path):
-    with open(path) as file:
-        return [int(line) for line in file]
 
 
 def mixed(x):
