@@ -1,10 +1,10 @@
 -- What is written otherwise in other assemblies, and how it is written here (docs/SHOW.md, "why").
-use Rattle.std.specs.Prelude.{ℕ, Bool, false, ◌==◌, ◌&&◌, nat_lt, if◌then◌else◌, List, [], ◌∷◌, codes, is_some, length, take, Option, Some, None}
-use Rattle.std.specs.List.{list_any}
+use Rattle.std.specs.Prelude.{ℕ, Bool, false, ◌==◌, ◌&&◌, ◌||◌, nat_le, nat_lt, if◌then◌else◌, List, [], ◌∷◌, codes, is_some, length, slice_index, slice_index_or, take, Option, Some, None}
+use Rattle.std.specs.List.{list_any, slice_split}
 use Rattle.std.specs.Str.{bytes_eq}
 use Rattle.masm_instr.specs.declared.form.Form.{Form}
 use Rattle.masm_reading.specs.Numbers.{number}
-use Rattle.show_why.specs.Forms.{form_by, word}
+use Rattle.show_why.specs.Forms.{form_by, is_capital, parameter, word}
 use Rattle.show_why.specs.Lines.{sentence}
 
 -- use.std::math::u64
@@ -57,3 +57,58 @@ abbrev pub run_line : Bool → List ℕ → List ℕ
 run_line kernel name =
     if kernel then sentence (word name ∷ codes " is a procedure: it is run by exec." ∷ word name ∷ [])
     else sentence (word name ∷ codes " is a procedure: it is run by exec." ∷ word name ∷ codes " or call." ∷ word name ∷ [])
+
+-- pub proc f
+abbrev pub public_line : Bool → List ℕ
+public_line kernel =
+    if kernel then sentence (codes "there is no pub: a procedure is proc.name, and one that programs may reach is export.name" ∷ [])
+    else sentence (codes "there is no pub: a procedure is proc.name, and only a kernel has export" ∷ [])
+
+-- proc f
+abbrev pub name_apart_line : List ℕ → List ℕ → List ℕ
+name_apart_line first next =
+    sentence (word first ∷ codes " is written " ∷ word first ∷ codes ".name, as " ∷ word first ∷ codes "." ∷ word next ∷ [])
+
+-- if.false
+abbrev pub is_if_false : List ℕ → List (List ℕ) → Bool
+is_if_false first more = bytes_eq first (codes "if") && (length more == 1) && bytes_eq (parameter more) (codes "false")
+
+abbrev pub if_false_line : List ℕ
+if_false_line = sentence (codes "there is no if.false: its body stands behind the else of an if.true" ∷ [])
+
+-- ( ) * + - /
+abbrev pub is_operator : ℕ → Bool
+is_operator byte = (nat_le 40 byte && nat_le byte 43) || (byte == 45) || (byte == 47)
+
+-- a text that begins as a constant's name does, or that has an operator
+abbrev pub is_expression : List ℕ → Bool
+is_expression text = is_capital text || list_any is_operator text
+
+-- what stands between the = of a part
+abbrev pub sides_of : List ℕ → List (List ℕ)
+sides_of part = slice_split (λ byte. byte == 61) part
+
+-- whether an expression stands behind the one =
+abbrev pub is_computed : List (List ℕ) → Bool
+is_computed sides = (length sides == 2) && is_expression (slice_index_or sides 1 [])
+
+-- const.B=A+1
+abbrev pub has_expression : List ℕ → List (List ℕ) → Bool
+has_expression first more = bytes_eq first (codes "const") && (length more == 1) && is_computed (sides_of (parameter more))
+
+abbrev pub expression_line : List ℕ
+expression_line = sentence (codes "a constant is one number, without arithmetic and without another constant" ∷ [])
+
+-- push.[1,2,3,4]
+abbrev pub is_bracket : List ℕ → Bool
+is_bracket part = slice_index part 0 == 91
+
+abbrev pub word_line : List ℕ
+word_line = sentence (codes "a word is pushed as four numbers, as push.1.2.3.4" ∷ [])
+
+-- assert.err=5
+abbrev pub is_error : List ℕ → Bool
+is_error part = bytes_eq part (codes "err") || bytes_eq (take 4 part) (codes "err=")
+
+abbrev pub error_line : List ℕ
+error_line = sentence (codes "there are no error codes: a trap tells its cause and its clock" ∷ [])

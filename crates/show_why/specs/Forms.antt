@@ -98,9 +98,17 @@ is_outside form (Some n) = not (is_in_range form n)
 abbrev pub first_outside : List Const → Form → List (List ℕ) → Option (List ℕ)
 first_outside consts form parts = find (λ part. is_outside form (parameter_of consts form.constants part)) parts
 
--- a part that gives a number outside of a form's range
+-- a part that gives a number outside of a range: other than the one number, or none from one to another
+abbrev pub one_line : List ℕ → ℕ → List ℕ → List ℕ
+one_line first low part =
+    sentence (word first ∷ codes " takes " ∷ decimal low ∷ codes " alone, and " ∷ word part ∷ codes " is another number" ∷ [])
+
+abbrev pub span_line : List ℕ → ℕ → ℕ → List ℕ → List ℕ
+span_line first low high part =
+    sentence
+    (word first ∷ codes " takes numbers from " ∷ decimal low ∷ codes " to " ∷ decimal high ∷ codes ", and " ∷ word part
+    ∷ codes " is none of them" ∷ [])
+
 abbrev pub range_line : List ℕ → Form → List ℕ → List ℕ
 range_line first form part =
-    sentence
-    (word first ∷ codes " takes numbers from " ∷ decimal form.low ∷ codes " to " ∷ decimal form.high ∷ codes ", and " ∷ word part
-    ∷ codes " is none of them" ∷ [])
+    if form.low == form.high then one_line first form.low part else span_line first form.low form.high part

@@ -1,11 +1,13 @@
 -- Names with a path before them, as u64::wrapping_add: here a name has none, and those of the library are as u64_wrapping_add.
-use Rattle.std.specs.Prelude.{ℕ, ◌-◌, Bool, ◌==◌, ◌&&◌, not, nat_le, if◌then◌else◌, List, [], ◌∷◌, ◌++◌, codes, length, slice_index_or}
+use Rattle.std.specs.Prelude.{ℕ, ◌-◌, Bool, ◌==◌, ◌&&◌, ◌||◌, not, nat_le, if◌then◌else◌, List, [], ◌∷◌, ◌++◌, codes, length, slice_index_or}
 use Rattle.std.specs.List.{slice_split}
 use Rattle.std.specs.Str.{bytes_eq}
 use Rattle.masm_link.specs.Libraries.{has_name}
+use Rattle.masm_tree.specs.declared.terminal.Header.{Header}
 use Rattle.std_u64.specs.Libraries.{u64_library}
 use Rattle.show_why.specs.Forms.{is_use, parameter, word}
 use Rattle.show_why.specs.Lines.{sentence}
+use Rattle.show_why.specs.Neighbours.{is_procedure_of}
 
 -- what stands between the colons of a part
 abbrev pub pieces_of : List ℕ → List (List ℕ)
@@ -35,6 +37,10 @@ joined_name pieces = piece_before 3 pieces ++ codes "_" ++ piece_before 1 pieces
 abbrev pub is_of_library : Bool → List ℕ → Bool
 is_of_library kernel name = not kernel && has_name u64_library name
 
+-- whether the name is that of a procedure, of the source or of the library
+abbrev pub names_procedure : Bool → List Header → List ℕ → Bool
+names_procedure kernel procedures name = is_procedure_of procedures name || is_of_library kernel name
+
 -- whether a token of this first part may; no syscall does
 abbrev pub reaches_library : Bool → List ℕ → List ℕ → Bool
 reaches_library kernel first name = not (bytes_eq first (codes "syscall")) && is_of_library kernel name
@@ -43,11 +49,28 @@ abbrev pub alone_line : List ℕ → List ℕ → List ℕ → List ℕ
 alone_line what first name =
     sentence (codes "names have no path here: " ∷ what ∷ codes " named alone, as " ∷ word first ∷ codes "." ∷ word name ∷ [])
 
--- the library's procedure of the joined name, where the token reaches it, or one of the last name
-abbrev pub either_line : Bool → List ℕ → List ℕ → List ℕ → List ℕ
-either_line reaches first joined last =
-    if reaches then alone_line (codes "the library's procedures are") first joined else alone_line (codes "a procedure is") first last
+-- whether no procedure has the name that a token of this first part uses; a syscall uses those of the kernel
+abbrev pub is_missing : Bool → List Header → List ℕ → List ℕ → Bool
+is_missing kernel procedures first name = not (bytes_eq first (codes "syscall")) && not (names_procedure kernel procedures name)
 
-abbrev pub path_line : Bool → List ℕ → List (List ℕ) → List ℕ
-path_line kernel first pieces =
-    either_line (reaches_library kernel first (joined_name pieces)) first (joined_name pieces) (piece_before 1 pieces)
+abbrev pub definer : Bool → List ℕ
+definer kernel =
+    if kernel then codes "names have no path here, and this kernel defines no procedure "
+    else codes "names have no path here, and neither this source nor the library defines a procedure "
+
+abbrev pub missing_line : Bool → List ℕ → List ℕ
+missing_line kernel name = sentence (definer kernel ∷ word name ∷ [])
+
+-- a path by its last name
+abbrev pub last_line : Bool → List Header → List ℕ → List ℕ → List ℕ
+last_line kernel procedures first last =
+    if is_missing kernel procedures first last then missing_line kernel last else alone_line (codes "a procedure is") first last
+
+-- the library's procedure of the joined name, where the token reaches it, or one of the last name
+abbrev pub either_line : Bool → List Header → List ℕ → List ℕ → List ℕ → List ℕ
+either_line kernel procedures first joined last =
+    if reaches_library kernel first joined then alone_line (codes "the library's procedures are") first joined
+    else last_line kernel procedures first last
+
+abbrev pub path_line : Bool → List Header → List ℕ → List (List ℕ) → List ℕ
+path_line kernel procedures first pieces = either_line kernel procedures first (joined_name pieces) (piece_before 1 pieces)

@@ -1,20 +1,18 @@
 -- Sentences on refused tokens (docs/SHOW.md, "why"), with the facts of their places.
 use Rattle.std.specs.Prelude.{ℕ, ◌==◌, Bool, true, false, ◌||◌, if◌then◌else◌, List, [], ◌∷◌, codes, decimal, find, length, slice_index_or, Option, Some, None, option_map, unwrap_or}
-use Rattle.std.specs.List.{slice_split}
+use Rattle.std.specs.List.{list_any, slice_split}
 use Rattle.std.specs.Str.{bytes_eq}
 use Rattle.masm_instr.specs.Instructions.{is_count}
 use Rattle.masm_instr.specs.declared.form.Form.{Form}
 use Rattle.masm_lex.specs.declared.list.Token.{Token}
 use Rattle.masm_lex.specs.Tokens.{text_of}
 use Rattle.masm_reading.specs.declared.constant.Const.{Const}
-use Rattle.masm_tree.specs.Classify.{classify}
-use Rattle.masm_tree.specs.declared.refusal.Cause.{Cause}
-use Rattle.masm_tree.specs.declared.refusal.Cause.TheVariants as parsing
 use Rattle.masm_tree.specs.declared.terminal.Header.{Header}
 use Rattle.masm_tree.specs.declared.terminal.Role.{Role}
 use Rattle.masm_tree.specs.declared.terminal.Role.TheVariants as roles
 use Rattle.masm_tree.specs.declared.tree.Position.{Position}
-use Rattle.show_why.specs.Foreign.{apart_line, has_semicolon, imports_line, is_apart, separator_line}
+use Rattle.show_why.specs.Alone.{is_malformed, lacks_name}
+use Rattle.show_why.specs.Foreign.{apart_line, error_line, expression_line, has_expression, has_semicolon, if_false_line, imports_line, is_apart, is_bracket, is_error, is_if_false, separator_line, name_apart_line, word_line}
 use Rattle.show_why.specs.Forms.{count_line, first_no_number, first_outside, form_by, is_procedure, no_number_line, parameter, range_line, word, written, written_line}
 use Rattle.show_why.specs.Lines.{sentence}
 use Rattle.show_why.specs.Paths.{has_path, path_line, pieces_of}
@@ -62,12 +60,21 @@ abbrev pub has_begun : Option Header → Bool
 has_begun None = false
 has_begun (Some header) = is_main header.role
 
--- a token that does not fit, where no block is open
-abbrev pub outside_line : List ℕ → Bool → List ℕ
-outside_line first begun =
-    if begun then sentence (codes "nothing stands behind the end of begin" ∷ [])
-    else if bytes_eq first (codes "export") then sentence (codes "only a kernel has export: a kernel is named behind --kernel" ∷ [])
+-- the export of a procedure of this name, in a program
+abbrev pub export_line : List ℕ → List ℕ
+export_line name =
+    sentence (codes "only a kernel has export: a kernel is named behind --kernel, and a program's procedure is proc." ∷ word name ∷ [])
+
+-- a token that does not fit, where no block is open and begin has not come
+abbrev pub early_line : List ℕ → List (List ℕ) → List ℕ
+early_line first more =
+    if bytes_eq first (codes "export") then export_line (parameter more)
     else sentence (word first ∷ codes " may not stand outside of begin and of procedures" ∷ [])
+
+-- a token that does not fit, where no block is open
+abbrev pub outside_line : List ℕ → List (List ℕ) → Bool → List ℕ
+outside_line first more begun =
+    if begun then sentence (codes "nothing may stand behind the end of begin" ∷ []) else early_line first more
 
 -- a token that does not fit in a block that is open
 abbrev pub inside_line : List ℕ → List ℕ → Token → List ℕ
@@ -77,9 +84,9 @@ inside_line text first token =
     ∷ decimal token.column ∷ [])
 
 -- a token that does not fit
-abbrev pub misplaced_line : List ℕ → List ℕ → Scene → Option Token → List ℕ
-misplaced_line text first scene None = outside_line first (has_begun (last_header scene))
-misplaced_line text first scene (Some token) = inside_line text first token
+abbrev pub misplaced_line : List ℕ → List ℕ → List (List ℕ) → Scene → Option Token → List ℕ
+misplaced_line text first more scene None = outside_line first more (has_begun (last_header scene))
+misplaced_line text first more scene (Some token) = inside_line text first token
 
 -- a part that gives no number, where each other one gives one
 abbrev pub part_line : Form → Option (List ℕ) → List ℕ
@@ -87,42 +94,50 @@ part_line form None = []
 part_line form (Some part) = no_number_line form part
 
 -- parameters of the wrong count, or one that gives no number
-abbrev pub parameters_line : List Const → List ℕ → List (List ℕ) → Option Form → List ℕ
-parameters_line consts first more None = []
-parameters_line consts first more (Some form) =
+abbrev pub counted_line : List Const → List ℕ → List (List ℕ) → Option Form → List ℕ
+counted_line consts first more None = []
+counted_line consts first more (Some form) =
     if is_count form (length more) then part_line form (first_no_number consts form more) else count_line first form (length more)
+
+-- parameters of a wrong form: a word in brackets, an error code, or others
+abbrev pub parameters_line : List Const → List ℕ → List (List ℕ) → List ℕ
+parameters_line consts first more =
+    if list_any is_bracket more then word_line
+    else if list_any is_error more then error_line
+    else counted_line consts first more (form_by first)
 
 -- a token of a wrong form, by how it is written
 abbrev pub form_line : List Const → List ℕ → List (List ℕ) → Option (List ℕ) → List ℕ
 form_line consts first more (Some form) = written_line first form
-form_line consts first more None = parameters_line consts first more (form_by first)
+form_line consts first more None = parameters_line consts first more
+
+-- a token of a wrong form, by its parts: if.false, a constant that is not one number, or another one
+abbrev pub plain_line : List Const → List ℕ → List (List ℕ) → List ℕ
+plain_line consts first more =
+    if is_if_false first more then if_false_line
+    else if has_expression first more then expression_line
+    else form_line consts first more (written first)
 
 -- a token of a wrong form, by its parts: a use with a path, or another one
-abbrev pub parts_line : Bool → List Const → List ℕ → List (List ℕ) → List ℕ
-parts_line kernel consts first more =
-    if has_path first more then path_line kernel first (pieces_of (parameter more)) else form_line consts first more (written first)
+abbrev pub parts_line : Bool → List Header → List Const → List ℕ → List (List ℕ) → List ℕ
+parts_line kernel procedures consts first more =
+    if has_path first more then path_line kernel procedures first (pieces_of (parameter more)) else plain_line consts first more
 
--- a token of a wrong form: with a ;, without the number that stands behind it, or another one
+-- a token of a wrong form: with a ;, without the number or the name that stands behind it, or another one
 abbrev pub malformed_line : Bool → Sight → List ℕ → List ℕ
 malformed_line kernel sight token =
     if has_semicolon token then separator_line
     else if is_apart (first_of sight) (more_of sight) sight.next then apart_line (first_of sight) (unwrap_or sight.next [])
-    else parts_line kernel sight.scene.context.consts (first_of sight) (more_of sight)
-
-abbrev pub is_syntax : Option Cause → Bool
-is_syntax (Some parsing.Syntax) = true
-is_syntax other = false
-
--- whether the token by itself is of a wrong form, wherever it stands
-abbrev pub is_malformed : Bool → Scene → List ℕ → Bool
-is_malformed kernel scene token = is_syntax (classify kernel scene.context (record { line = 0; column = 0 }) token).fault
+    else if lacks_name kernel sight.scene (first_of sight) (more_of sight) sight.next
+    then name_apart_line (first_of sight) (unwrap_or sight.next [])
+    else parts_line kernel sight.procedures sight.scene.context.consts (first_of sight) (more_of sight)
 
 -- Syntax
 abbrev pub syntax_line : Bool → List ℕ → Sight → Option (List ℕ) → List ℕ
 syntax_line kernel text sight None = end_line text (innermost sight.scene)
 syntax_line kernel text sight (Some token) =
     if is_malformed kernel sight.scene token then malformed_line kernel sight token
-    else misplaced_line text (first_of sight) sight.scene (innermost sight.scene)
+    else misplaced_line text (first_of sight) (more_of sight) sight.scene (innermost sight.scene)
 
 -- NumberRange, of a parameter
 abbrev pub outside_part_line : List ℕ → Form → Option (List ℕ) → List ℕ

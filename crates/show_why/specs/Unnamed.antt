@@ -1,18 +1,10 @@
 -- What is told of a token whose first part is neither a word of the grammar nor an instruction's name.
-use Rattle.std.specs.Prelude.{ℕ, Bool, ◌||◌, if◌then◌else◌, List, [], ◌∷◌, codes}
+use Rattle.std.specs.Prelude.{ℕ, Bool, if◌then◌else◌, List, codes}
+use Rattle.std.specs.Str.{bytes_eq}
 use Rattle.masm_tree.specs.declared.terminal.Header.{Header}
-use Rattle.show_why.specs.Foreign.{comment_line, has_semicolon, is_number, is_slashes, pushed_line, run_line, separator_line}
-use Rattle.show_why.specs.Forms.{word}
-use Rattle.show_why.specs.Lines.{sentence}
-use Rattle.show_why.specs.Neighbours.{is_procedure_of}
-use Rattle.show_why.specs.Paths.{is_of_library}
-
-abbrev pub no_name_line : List ℕ → List ℕ
-no_name_line first = sentence (codes "there is no instruction " ∷ word first ∷ [])
-
--- whether the name is that of a procedure, of the source or of the library
-abbrev pub names_procedure : Bool → List Header → List ℕ → Bool
-names_procedure kernel procedures name = is_procedure_of procedures name || is_of_library kernel name
+use Rattle.show_why.specs.Foreign.{comment_line, has_semicolon, is_number, is_slashes, public_line, pushed_line, run_line, separator_line}
+use Rattle.show_why.specs.OtherNames.{other_name_line}
+use Rattle.show_why.specs.Paths.{names_procedure}
 
 -- UnknownInstruction
 abbrev pub unnamed_line : Bool → List Header → List ℕ → List ℕ → List ℕ
@@ -21,4 +13,5 @@ unnamed_line kernel procedures token first =
     else if has_semicolon token then separator_line
     else if is_number token then pushed_line token
     else if names_procedure kernel procedures first then run_line kernel first
-    else no_name_line first
+    else if bytes_eq first (codes "pub") then public_line kernel
+    else other_name_line first

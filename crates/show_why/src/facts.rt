@@ -51,7 +51,7 @@ fn append_seen(
         }
         AsmCause::KernelBody => append_kept(text, first),
         AsmCause::Unsupported => append_unsupported(text, place.in_kernel, first),
-        AsmCause::UnknownInstruction => append_unnamed(text, place.in_kernel, sight),
+        AsmCause::UnknownInstruction => append_unnamed(alloc, text, place.in_kernel, sight),
         AsmCause::Syntax => append_syntax(alloc, text, place.in_kernel, source, sight),
         AsmCause::NumberRange | AsmCause::RepeatRange => {
             append_number_line(text, &scene.consts, first, more)

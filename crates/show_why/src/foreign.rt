@@ -1,11 +1,14 @@
 //! What is written otherwise in other assemblies, and how it is written here.
-ghost use Rattle.std.specs.Prelude.{◌≡◌, ◌++◌, map, option_map, OnOk};
-ghost use Rattle.show_why.specs.Foreign.{apart_line, comment_line, gives_number, has_semicolon, imports_line, is_apart, is_number, is_slashes, pushed_line, run_line, separator_line, wants_number};
+ghost use Rattle.std.specs.Prelude.{◌≡◌, ◌++◌, map, option_map, IfOk, OnOk};
+ghost use Rattle.std.specs.List.{list_any};
+ghost use Rattle.show_why.specs.Foreign.{apart_line, comment_line, error_line, expression_line, gives_number, has_expression, has_semicolon, if_false_line, imports_line, is_apart, is_bracket, is_computed, is_error, is_expression, is_if_false, is_number, is_operator, is_slashes, public_line, pushed_line, run_line, separator_line, sides_of, name_apart_line, wants_number, word_line};
 
-use crate::forms::{form_by, word};
+use crate::forms::{form_by, is_capital, word};
 use crate::lines::{append_sentence, front};
+use crate::sight::first_part;
 use masm_instr::Form;
-use masm_reading::read_number;
+use masm_reading::{read_number, split};
+use std::alloc::Global;
 use vm_field::{Bytes, Memory};
 
 pub(crate) fn append_imports(text: &mut Bytes, is_kernel: bool) -> Result<(), Memory>
@@ -114,4 +117,159 @@ pub(crate) fn append_run(text: &mut Bytes, is_kernel: bool, name: &[u8]) -> Resu
     } else {
         append_sentence(text, &[name, between, name, b" or call.", name])
     }
+}
+
+pub(crate) fn append_public(text: &mut Bytes, is_kernel: bool) -> Result<(), Memory>
+    ensures { OnOk result (text.new ≡ text.old ++ public_line is_kernel) }
+{
+    if is_kernel {
+        append_sentence(
+            text,
+            &[
+                b"there is no pub: a procedure is proc.name, and one that programs may reach is export.name",
+            ],
+        )
+    } else {
+        append_sentence(
+            text,
+            &[b"there is no pub: a procedure is proc.name, and only a kernel has export"],
+        )
+    }
+}
+
+pub(crate) fn append_name_apart(text: &mut Bytes, first: &[u8], next: &[u8]) -> Result<(), Memory>
+    ensures { OnOk result (text.new ≡ text.old ++ name_apart_line first.now next.now) }
+{
+    let first = word(first);
+    let (written, example) = (b" is written ", b".name, as ");
+    append_sentence(
+        text,
+        &[first, written, first, example, first, b".", word(next)],
+    )
+}
+
+// Whether a token is `if.false`.
+pub(crate) fn is_if_false(first: &[u8], more: &[&[u8]]) -> bool
+    ensures { result ≡ is_if_false first.now (map (λ part. part.now) more.now) }
+{
+    first == b"if".as_slice() && more.len() == 1 && first_part(more) == b"false".as_slice()
+}
+
+pub(crate) fn append_if_false(text: &mut Bytes) -> Result<(), Memory>
+    ensures { OnOk result (text.new ≡ text.old ++ if_false_line) }
+{
+    append_sentence(
+        text,
+        &[b"there is no if.false: its body stands behind the else of an if.true"],
+    )
+}
+
+fn is_operator(byte: u8) -> bool
+    ensures { result ≡ is_operator byte }
+{
+    matches!(byte, b'('..=b'+' | b'-' | b'/')
+}
+
+fn has_operator(text: &[u8]) -> bool
+    ensures { result ≡ list_any is_operator text.now }
+{
+    text.iter().any(|byte| is_operator(*byte))
+}
+
+// Whether a text begins as a constant's name does, or has an operator.
+fn is_expression(text: &[u8]) -> bool
+    ensures { result ≡ is_expression text.now }
+{
+    is_capital(text) || has_operator(text)
+}
+
+// Whether an expression stands behind the one `=`.
+fn is_computed(sides: &[&[u8]]) -> bool
+    ensures { result ≡ is_computed (map (λ side. side.now) sides.now) }
+{
+    match sides {
+        [_, value] => is_expression(value),
+        _ => false,
+    }
+}
+
+fn is_computed_part(alloc: Global, part: &[u8]) -> Result<bool, Memory>
+    ensures { IfOk result (λ is. is ≡ is_computed (sides_of part.now)) }
+{
+    let sides = split(alloc, part, b'=')?;
+    Ok(is_computed(sides.as_slice()))
+}
+
+// Whether a token gives a constant an expression.
+pub(crate) fn has_expression(alloc: Global, first: &[u8], more: &[&[u8]]) -> Result<bool, Memory>
+    ensures { IfOk result (λ has. has ≡ has_expression first.now (map (λ part. part.now) more.now)) }
+{
+    let is_computed = is_computed_part(alloc, first_part(more))?;
+    Ok(first == b"const".as_slice() && more.len() == 1 && is_computed)
+}
+
+pub(crate) fn append_expression(text: &mut Bytes) -> Result<(), Memory>
+    ensures { OnOk result (text.new ≡ text.old ++ expression_line) }
+{
+    append_sentence(
+        text,
+        &[b"a constant is one number, without arithmetic and without another constant"],
+    )
+}
+
+fn is_bracket(part: &[u8]) -> bool
+    ensures { result ≡ is_bracket part.now }
+{
+    match part.first() {
+        Some(byte) => *byte == b'[',
+        None => false,
+    }
+}
+
+// Whether a part begins with a bracket.
+pub(crate) fn has_bracket(parts: &[&[u8]]) -> bool
+    ensures { result ≡ list_any is_bracket (map (λ part. part.now) parts.now) }
+{
+    for part in parts {
+        if is_bracket(part) {
+            return true;
+        }
+    }
+    false
+}
+
+pub(crate) fn append_word(text: &mut Bytes) -> Result<(), Memory>
+    ensures { OnOk result (text.new ≡ text.old ++ word_line) }
+{
+    append_sentence(
+        text,
+        &[b"a word is pushed as four numbers, as push.1.2.3.4"],
+    )
+}
+
+fn is_error(part: &[u8]) -> bool
+    ensures { result ≡ is_error part.now }
+{
+    part == b"err".as_slice() || front(part, 4) == b"err=".as_slice()
+}
+
+// Whether a part names an error code.
+pub(crate) fn has_error(parts: &[&[u8]]) -> bool
+    ensures { result ≡ list_any is_error (map (λ part. part.now) parts.now) }
+{
+    for part in parts {
+        if is_error(part) {
+            return true;
+        }
+    }
+    false
+}
+
+pub(crate) fn append_error(text: &mut Bytes) -> Result<(), Memory>
+    ensures { OnOk result (text.new ≡ text.old ++ error_line) }
+{
+    append_sentence(
+        text,
+        &[b"there are no error codes: a trap tells its cause and its clock"],
+    )
 }

@@ -1,6 +1,6 @@
 //! How tokens are written, in words.
 ghost use Rattle.std.specs.Prelude.{◌≡◌, ◌++◌, map, option_map, OnOk};
-ghost use Rattle.show_why.specs.Forms.{between_line, count_line, exact_line, first_no_number, first_outside, form_by, is_capital, is_outside, is_procedure, is_use, missing_text, no_number_line, none_line, range_line, word, written, written_line};
+ghost use Rattle.show_why.specs.Forms.{between_line, count_line, exact_line, first_no_number, first_outside, form_by, is_capital, is_outside, is_procedure, is_use, missing_text, no_number_line, none_line, one_line, range_line, span_line, word, written, written_line};
 
 use crate::lines::{append_both, append_sentence, front};
 use itoa::Buffer;
@@ -151,7 +151,7 @@ pub(crate) fn append_count(
 }
 
 // Whether a part begins as a constant's name does.
-fn is_capital(part: &[u8]) -> bool
+pub(crate) fn is_capital(part: &[u8]) -> bool
     ensures { result ≡ is_capital part.now }
 {
     match part.first() {
@@ -221,17 +221,30 @@ pub(crate) fn first_outside<'a>(
     None
 }
 
-pub(crate) fn append_range(
+fn append_one(text: &mut Bytes, first: &[u8], low: u128, part: &[u8]) -> Result<(), Memory>
+    ensures { OnOk result (text.new ≡ text.old ++ one_line first.now low part.now) }
+{
+    let mut buffer = Buffer::new();
+    let low = buffer.format(low).as_bytes();
+    let (between, behind) = (b" alone, and ", b" is another number");
+    append_sentence(
+        text,
+        &[word(first), b" takes ", low, between, word(part), behind],
+    )
+}
+
+fn append_span(
     text: &mut Bytes,
     first: &[u8],
-    form: &Form,
+    low: u128,
+    high: u128,
     part: &[u8],
 ) -> Result<(), Memory>
-    ensures { OnOk result (text.new ≡ text.old ++ range_line first.now form.now part.now) }
+    ensures { OnOk result (text.new ≡ text.old ++ span_line first.now low high part.now) }
 {
-    let (mut low, mut high) = (Buffer::new(), Buffer::new());
-    let low = low.format(form.low).as_bytes();
-    let high = high.format(form.high).as_bytes();
+    let (mut least, mut greatest) = (Buffer::new(), Buffer::new());
+    let low = least.format(low).as_bytes();
+    let high = greatest.format(high).as_bytes();
     append_sentence(
         text,
         &[
@@ -245,4 +258,20 @@ pub(crate) fn append_range(
             b" is none of them",
         ],
     )
+}
+
+// Adds what is told of a part that gives a number outside of a form's range.
+pub(crate) fn append_range(
+    text: &mut Bytes,
+    first: &[u8],
+    form: &Form,
+    part: &[u8],
+) -> Result<(), Memory>
+    ensures { OnOk result (text.new ≡ text.old ++ range_line first.now form.now part.now) }
+{
+    if form.low == form.high {
+        append_one(text, first, form.low, part)
+    } else {
+        append_span(text, first, form.low, form.high, part)
+    }
 }

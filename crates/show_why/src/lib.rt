@@ -2,6 +2,7 @@
 //! by the cause.
 #![tactic(auto)]
 
+mod alone;
 mod defined;
 mod facts;
 mod foreign;
@@ -9,6 +10,7 @@ mod forms;
 mod laws;
 mod lines;
 mod neighbours;
+mod other_names;
 mod paths;
 mod scene;
 mod sentences;

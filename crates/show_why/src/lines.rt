@@ -1,5 +1,5 @@
 //! A line of a source as it is shown, with a mark under a place of it.
-ghost use Rattle.std.specs.Prelude.{◌≡◌, [], ◌∷◌, ◌++◌, map, replicate, take, IfOk, OnOk};
+ghost use Rattle.std.specs.Prelude.{◌≡◌, [], ◌∷◌, ◌++◌, drop, map, replicate, take, IfOk, OnOk};
 ghost use Rattle.show_why.specs.Lines.{byte_at, line_at, mark_line, sentence, shown_byte, shown_line};
 ghost use Rattle.std.specs.List.{flat_map};
 
@@ -122,4 +122,12 @@ pub(crate) fn front(text: &[u8], most: usize) -> &[u8]
     ensures { result.now ≡ take most text.entry.now }
 {
     &text[..most.min(text.len())]
+}
+
+// The bytes of a text behind so many.
+#[tactic(auto, using(std::proofs::lemmas::List::drop_min))]
+pub(crate) fn behind(text: &[u8], count: usize) -> &[u8]
+    ensures { result.now ≡ drop count text.entry.now }
+{
+    &text[count.min(text.len())..]
 }

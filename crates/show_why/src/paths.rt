@@ -3,12 +3,14 @@ ghost use Rattle.std.specs.Prelude.{◌≡◌, ◌++◌, map, IfOk, OnOk};
 ghost use Rattle.masm_link.specs.Libraries.{has_name};
 ghost use Rattle.std_u64.specs.Libraries.{u64_library};
 ghost use Rattle.show_why.specs.Forms.{parameter};
-ghost use Rattle.show_why.specs.Paths.{alone_line, either_line, has_path, is_of_library, is_path, joined_name, names_one, path_line, piece_before, pieces_of, reaches_library};
+ghost use Rattle.show_why.specs.Paths.{alone_line, definer, either_line, has_path, is_missing, is_of_library, is_path, joined_name, last_line, missing_line, names_one, names_procedure, path_line, piece_before, pieces_of, reaches_library};
 
 use crate::forms::{is_use, word};
-use crate::lines::append_sentence;
+use crate::lines::{append_both, append_sentence};
+use crate::neighbours::is_procedure_of;
 use crate::sight::first_part;
 use masm_reading::split;
+use masm_tree::Header;
 use std::alloc::Global;
 use std_u64::by_name;
 use vm_field::{Bytes, Memory};
@@ -74,6 +76,13 @@ pub(crate) fn is_of_library(is_kernel: bool, name: &[u8]) -> bool
     !is_kernel && has_name(name)
 }
 
+// Whether the name is that of a procedure, of the source or of the library.
+pub(crate) fn names_procedure(is_kernel: bool, procedures: &[Header], name: &[u8]) -> bool
+    ensures { result ≡ names_procedure is_kernel procedures.now name.now }
+{
+    is_procedure_of(procedures, name) || is_of_library(is_kernel, name)
+}
+
 // Whether a token of this first part may.
 fn reaches_library(is_kernel: bool, first: &[u8], name: &[u8]) -> bool
     ensures { result ≡ reaches_library is_kernel first.now name.now }
@@ -92,20 +101,61 @@ fn append_alone(text: &mut Bytes, what: &[u8], first: &[u8], name: &[u8]) -> Res
     )
 }
 
-// Adds the library's procedure of the joined name, where the token reaches it, or one of the last name.
+// Whether no procedure has the name that a token of this first part uses.
+fn is_missing(is_kernel: bool, procedures: &[Header], first: &[u8], name: &[u8]) -> bool
+    ensures { result ≡ is_missing is_kernel procedures.now first.now name.now }
+{
+    first != b"syscall".as_slice() && !names_procedure(is_kernel, procedures, name)
+}
+
+fn definer(is_kernel: bool) -> &'static str
+    ensures { result.now ≡ definer is_kernel }
+{
+    if is_kernel {
+        "names have no path here, and this kernel defines no procedure "
+    } else {
+        "names have no path here, and neither this source nor the library defines a procedure "
+    }
+}
+
+fn append_missing(text: &mut Bytes, is_kernel: bool, name: &[u8]) -> Result<(), Memory>
+    ensures { OnOk result (text.new ≡ text.old ++ missing_line is_kernel name.now) }
+{
+    append_both(text, definer(is_kernel).as_bytes(), word(name))
+}
+
+// Adds what is told of a path by its last name.
+fn append_last(
+    text: &mut Bytes,
+    is_kernel: bool,
+    procedures: &[Header],
+    first: &[u8],
+    last: &[u8],
+) -> Result<(), Memory>
+    ensures { OnOk result (text.new ≡ text.old ++ last_line is_kernel procedures.now first.now last.now) }
+{
+    if is_missing(is_kernel, procedures, first, last) {
+        append_missing(text, is_kernel, last)
+    } else {
+        append_alone(text, b"a procedure is", first, last)
+    }
+}
+
+// Adds the library's procedure of the joined name, where the token reaches it, or what is told of the last name.
 fn append_either(
     text: &mut Bytes,
-    reaches: bool,
+    is_kernel: bool,
+    procedures: &[Header],
     first: &[u8],
     joined: &[u8],
     last: &[u8],
 ) -> Result<(), Memory>
-    ensures { OnOk result (text.new ≡ text.old ++ either_line reaches first.now joined.now last.now) }
+    ensures { OnOk result (text.new ≡ text.old ++ either_line is_kernel procedures.now first.now joined.now last.now) }
 {
-    if reaches {
+    if reaches_library(is_kernel, first, joined) {
         append_alone(text, b"the library's procedures are", first, joined)
     } else {
-        append_alone(text, b"a procedure is", first, last)
+        append_last(text, is_kernel, procedures, first, last)
     }
 }
 
@@ -113,16 +163,17 @@ fn append_pieces(
     alloc: Global,
     text: &mut Bytes,
     is_kernel: bool,
+    procedures: &[Header],
     first: &[u8],
     pieces: &[&[u8]],
 ) -> Result<(), Memory>
-    ensures { OnOk result (text.new ≡ text.old ++ path_line is_kernel first.now (map (λ piece. piece.now) pieces.now)) }
+    ensures { OnOk result (text.new ≡ text.old ++ path_line is_kernel procedures.now first.now (map (λ piece. piece.now) pieces.now)) }
 {
     let joined = joined_name(alloc, pieces)?;
-    let reaches = reaches_library(is_kernel, first, joined.as_slice());
     append_either(
         text,
-        reaches,
+        is_kernel,
+        procedures,
         first,
         joined.as_slice(),
         piece_before(pieces, 1),
@@ -133,11 +184,12 @@ pub(crate) fn append_path(
     alloc: Global,
     text: &mut Bytes,
     is_kernel: bool,
+    procedures: &[Header],
     first: &[u8],
     more: &[&[u8]],
 ) -> Result<(), Memory>
-    ensures { OnOk result (text.new ≡ text.old ++ path_line is_kernel first.now (pieces_of (parameter (map (λ part. part.now) more.now)))) }
+    ensures { OnOk result (text.new ≡ text.old ++ path_line is_kernel procedures.now first.now (pieces_of (parameter (map (λ part. part.now) more.now)))) }
 {
     let pieces = split(alloc, first_part(more), b':')?;
-    append_pieces(alloc, text, is_kernel, first, pieces.as_slice())
+    append_pieces(alloc, text, is_kernel, procedures, first, pieces.as_slice())
 }

@@ -1,12 +1,17 @@
 //! What is told of a token that does not fit or is of a wrong form, and of a source that ends early.
-ghost use Rattle.std.specs.Prelude.{◌≡◌, ◌++◌, map, option_map, IfOk, OnOk};
-ghost use Rattle.show_why.specs.Sentences.{end_line, form_line, has_begun, inside_line, is_malformed, malformed_line, misplaced_line, outside_line, parameters_line, part_line, parts_line, syntax_line};
+ghost use Rattle.std.specs.Prelude.{◌≡◌, ◌++◌, map, option_map, OnOk};
+ghost use Rattle.show_why.specs.Sentences.{counted_line, early_line, end_line, export_line, form_line, has_begun, inside_line, malformed_line, misplaced_line, outside_line, parameters_line, part_line, parts_line, plain_line, syntax_line};
 ghost use Rattle.show_why.specs.Forms.{written as written_as};
 ghost use Rattle.show_why.specs.Scenes.{innermost};
 ghost use Rattle.show_why.specs.Sights.{Sight as Seen, first_of, more_of};
 ghost use Rattle.show_why.specs.Views.{IsSight, scene_view};
 
-use crate::foreign::{append_apart, append_separator, has_semicolon, is_apart};
+use crate::alone::{is_malformed, lacks_name};
+use crate::foreign::{
+    append_apart, append_error, append_expression, append_if_false, append_name_apart,
+    append_separator, append_word, has_bracket, has_error, has_expression, has_semicolon, is_apart,
+    is_if_false,
+};
 use crate::forms::{
     append_count, append_no_number, append_written, first_no_number, form_by, word, written,
 };
@@ -18,7 +23,7 @@ use itoa::Buffer;
 use masm_instr::Form;
 use masm_lex::Token;
 use masm_reading::Consts;
-use masm_tree::{Cause, Header, Position, Role, classify};
+use masm_tree::{Header, Role};
 use std::alloc::Global;
 use vm_field::{Bytes, Memory};
 
@@ -56,19 +61,33 @@ fn has_begun(header: Option<&Header>) -> bool
     }
 }
 
-fn append_outside(text: &mut Bytes, first: &[u8], begun: bool) -> Result<(), Memory>
-    ensures { OnOk result (text.new ≡ text.old ++ outside_line first.now begun) }
+// Adds what is told of the export of a procedure in a program.
+fn append_export(text: &mut Bytes, name: &[u8]) -> Result<(), Memory>
+    ensures { OnOk result (text.new ≡ text.old ++ export_line name.now) }
+{
+    let before =
+        b"only a kernel has export: a kernel is named behind --kernel, and a program's procedure is proc.";
+    append_sentence(text, &[before, word(name)])
+}
+
+// Adds what is told of a token that does not fit before `begin`.
+fn append_early(text: &mut Bytes, first: &[u8], more: &[&[u8]]) -> Result<(), Memory>
+    ensures { OnOk result (text.new ≡ text.old ++ early_line first.now (map (λ part. part.now) more.now)) }
+{
+    if first == b"export".as_slice() {
+        return append_export(text, first_part(more));
+    }
+    let behind = b" may not stand outside of begin and of procedures";
+    append_sentence(text, &[word(first), behind])
+}
+
+fn append_outside(text: &mut Bytes, first: &[u8], more: &[&[u8]], begun: bool) -> Result<(), Memory>
+    ensures { OnOk result (text.new ≡ text.old ++ outside_line first.now (map (λ part. part.now) more.now) begun) }
 {
     if begun {
-        append_sentence(text, &[b"nothing stands behind the end of begin"])
-    } else if first == b"export".as_slice() {
-        append_sentence(
-            text,
-            &[b"only a kernel has export: a kernel is named behind --kernel"],
-        )
+        append_sentence(text, &[b"nothing may stand behind the end of begin"])
     } else {
-        let behind = b" may not stand outside of begin and of procedures";
-        append_sentence(text, &[word(first), behind])
+        append_early(text, first, more)
     }
 }
 
@@ -90,13 +109,15 @@ fn append_misplaced(
     text: &mut Bytes,
     source: &[u8],
     first: &[u8],
+    more: &[&[u8]],
     scene: &Scene,
 ) -> Result<(), Memory>
-    ensures { OnOk result (text.new ≡ text.old ++ misplaced_line source.now first.now (scene_view scene.now) (innermost (scene_view scene.now))) }
+    ensures { OnOk result (text.new ≡ text.old
+        ++ misplaced_line source.now first.now (map (λ part. part.now) more.now) (scene_view scene.now) (innermost (scene_view scene.now))) }
 {
     match scene.innermost() {
         Some(token) => append_inside(text, source, first, &token),
-        None => append_outside(text, first, has_begun(scene.last_header())),
+        None => append_outside(text, first, more, has_begun(scene.last_header())),
     }
 }
 
@@ -109,14 +130,15 @@ fn append_part(text: &mut Bytes, form: &Form, part: Option<&[u8]>) -> Result<(),
     }
 }
 
-fn append_parameters(
+// Adds what is told of parameters by their count.
+fn append_counted(
     text: &mut Bytes,
     consts: &Consts,
     first: &[u8],
     more: &[&[u8]],
     form: Option<Form>,
 ) -> Result<(), Memory>
-    ensures { OnOk result (text.new ≡ text.old ++ parameters_line consts.now first.now (map (λ part. part.now) more.now) form) }
+    ensures { OnOk result (text.new ≡ text.old ++ counted_line consts.now first.now (map (λ part. part.now) more.now) form) }
 {
     let Some(form) = form else {
         return Ok(());
@@ -125,6 +147,23 @@ fn append_parameters(
         return append_count(text, first, &form, more.len());
     }
     append_part(text, &form, first_no_number(consts, &form, more))
+}
+
+fn append_parameters(
+    text: &mut Bytes,
+    consts: &Consts,
+    first: &[u8],
+    more: &[&[u8]],
+) -> Result<(), Memory>
+    ensures { OnOk result (text.new ≡ text.old ++ parameters_line consts.now first.now (map (λ part. part.now) more.now)) }
+{
+    if has_bracket(more) {
+        append_word(text)
+    } else if has_error(more) {
+        append_error(text)
+    } else {
+        append_counted(text, consts, first, more, form_by(first))
+    }
 }
 
 fn append_form(
@@ -137,7 +176,26 @@ fn append_form(
 {
     match written(first) {
         Some(form) => append_written(text, first, form),
-        None => append_parameters(text, consts, first, more, form_by(first)),
+        None => append_parameters(text, consts, first, more),
+    }
+}
+
+// Adds what is told of a token of a wrong form without a path.
+fn append_plain(
+    alloc: Global,
+    text: &mut Bytes,
+    consts: &Consts,
+    first: &[u8],
+    more: &[&[u8]],
+) -> Result<(), Memory>
+    ensures { OnOk result (text.new ≡ text.old ++ plain_line consts.now first.now (map (λ part. part.now) more.now)) }
+{
+    if is_if_false(first, more) {
+        append_if_false(text)
+    } else if has_expression(alloc, first, more)? {
+        append_expression(text)
+    } else {
+        append_form(text, consts, first, more)
     }
 }
 
@@ -146,16 +204,18 @@ fn append_parts(
     alloc: Global,
     text: &mut Bytes,
     is_kernel: bool,
+    procedures: &[Header],
     consts: &Consts,
     first: &[u8],
     more: &[&[u8]],
 ) -> Result<(), Memory>
-    ensures { OnOk result (text.new ≡ text.old ++ parts_line is_kernel consts.now first.now (map (λ part. part.now) more.now)) }
+    ensures { OnOk result (text.new ≡ text.old
+        ++ parts_line is_kernel procedures.now consts.now first.now (map (λ part. part.now) more.now)) }
 {
     if has_path(alloc, first, more)? {
-        append_path(alloc, text, is_kernel, first, more)
+        append_path(alloc, text, is_kernel, procedures, first, more)
     } else {
-        append_form(text, consts, first, more)
+        append_plain(alloc, text, consts, first, more)
     }
 }
 
@@ -167,11 +227,19 @@ fn append_rest(
     sight: &Sight<'_>,
 ) -> Result<(), Memory>
     ensures { OnOk result ((seen : Seen) → IsSight sight.now seen
-        → text.new ≡ text.old ++ parts_line is_kernel seen.scene.context.consts (first_of seen) (more_of seen)) }
+        → text.new ≡ text.old ++ parts_line is_kernel seen.procedures seen.scene.context.consts (first_of seen) (more_of seen)) }
 {
     let first = first_part(sight.parts.as_slice());
     let more = later_parts(sight.parts.as_slice());
-    append_parts(alloc, text, is_kernel, &sight.scene.consts, first, more)
+    append_parts(
+        alloc,
+        text,
+        is_kernel,
+        sight.procedures.as_slice(),
+        &sight.scene.consts,
+        first,
+        more,
+    )
 }
 
 // Adds what is told of a token of a wrong form.
@@ -191,27 +259,11 @@ fn append_malformed(
         append_separator(text)
     } else if is_apart(first, more, sight.next) {
         append_apart(text, first, text_or_nothing(sight.next))
+    } else if lacks_name(alloc, is_kernel, &sight.scene, first, more, sight.next)? {
+        append_name_apart(text, first, text_or_nothing(sight.next))
     } else {
         append_rest(alloc, text, is_kernel, sight)
     }
-}
-
-// Whether a token by itself is of a wrong form, wherever it stands.
-fn is_malformed(alloc: Global, is_kernel: bool, scene: &Scene, token: &[u8]) -> Result<bool, Memory>
-    ensures { IfOk result (λ is. is ≡ is_malformed is_kernel (scene_view scene.now) token.now) }
-{
-    let nowhere = Position { line: 0, column: 0 };
-    let mut parts = Vec::new(alloc);
-    let symbol = classify(
-        alloc,
-        is_kernel,
-        &scene.consts,
-        scene.locals,
-        nowhere,
-        token,
-        &mut parts,
-    )?;
-    Ok(symbol.fault == Some(Cause::Syntax))
 }
 
 pub(crate) fn append_syntax(
@@ -231,6 +283,8 @@ pub(crate) fn append_syntax(
     if is_malformed(alloc, is_kernel, scene, token)? {
         append_malformed(alloc, text, is_kernel, sight, token)
     } else {
-        append_misplaced(text, source, first_part(sight.parts.as_slice()), scene)
+        let first = first_part(sight.parts.as_slice());
+        let more = later_parts(sight.parts.as_slice());
+        append_misplaced(text, source, first, more, scene)
     }
 }

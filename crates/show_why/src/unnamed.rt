@@ -1,36 +1,23 @@
 //! What is told of a token whose first part is neither a word of the grammar nor an instruction's name.
 ghost use Rattle.std.specs.Prelude.{◌≡◌, [], ◌++◌, unwrap_or, OnOk};
 ghost use Rattle.show_why.specs.Sights.{Sight as Seen, first_of};
-ghost use Rattle.show_why.specs.Unnamed.{names_procedure, no_name_line, unnamed_line};
+ghost use Rattle.show_why.specs.Unnamed.{unnamed_line};
 ghost use Rattle.show_why.specs.Views.{IsSight};
 
 use crate::foreign::{
-    append_comment, append_pushed, append_run, append_separator, has_semicolon, is_number,
-    is_slashes,
+    append_comment, append_public, append_pushed, append_run, append_separator, has_semicolon,
+    is_number, is_slashes,
 };
-use crate::forms::word;
-use crate::lines::append_sentence;
-use crate::neighbours::is_procedure_of;
-use crate::paths::is_of_library;
+use crate::other_names::append_other_name;
+use crate::paths::names_procedure;
 use crate::sight::{Sight, first_part, text_or_nothing};
 use masm_tree::Header;
+use std::alloc::Global;
 use vm_field::{Bytes, Memory};
-
-fn append_no_name(text: &mut Bytes, first: &[u8]) -> Result<(), Memory>
-    ensures { OnOk result (text.new ≡ text.old ++ no_name_line first.now) }
-{
-    append_sentence(text, &[b"there is no instruction ", word(first)])
-}
-
-// Whether the name is that of a procedure, of the source or of the library.
-fn names_procedure(is_kernel: bool, procedures: &[Header], name: &[u8]) -> bool
-    ensures { result ≡ names_procedure is_kernel procedures.now name.now }
-{
-    is_procedure_of(procedures, name) || is_of_library(is_kernel, name)
-}
 
 // Adds what is told of a token by its text and its first part.
 fn append_by_text(
+    alloc: Global,
     text: &mut Bytes,
     is_kernel: bool,
     procedures: &[Header],
@@ -47,12 +34,15 @@ fn append_by_text(
         append_pushed(text, token)
     } else if names_procedure(is_kernel, procedures, first) {
         append_run(text, is_kernel, first)
+    } else if first == b"pub".as_slice() {
+        append_public(text, is_kernel)
     } else {
-        append_no_name(text, first)
+        append_other_name(alloc, text, first)
     }
 }
 
 pub(crate) fn append_unnamed(
+    alloc: Global,
     text: &mut Bytes,
     is_kernel: bool,
     sight: &Sight<'_>,
@@ -62,5 +52,12 @@ pub(crate) fn append_unnamed(
 {
     let token = text_or_nothing(sight.token);
     let first = first_part(sight.parts.as_slice());
-    append_by_text(text, is_kernel, sight.procedures.as_slice(), token, first)
+    append_by_text(
+        alloc,
+        text,
+        is_kernel,
+        sight.procedures.as_slice(),
+        token,
+        first,
+    )
 }

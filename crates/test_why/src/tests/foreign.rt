@@ -41,7 +41,7 @@ static IMPORTS: [Row; 4] = [
     ),
 ];
 
-static PATHS: [Row; 9] = [
+static PATHS: [Row; 12] = [
     (
         Text("begin exec.u64::wrapping_add end"),
         None,
@@ -76,7 +76,7 @@ static PATHS: [Row; 9] = [
         "source p 1 7 Syntax\n\
             begin call.sys::truncate_stack end\n\
             \x20     ^\n\
-            names have no path here: a procedure is named alone, as call.truncate_stack\n",
+            names have no path here, and neither this source nor the library defines a procedure truncate_stack\n",
     ),
     (
         Text("begin end"),
@@ -85,7 +85,34 @@ static PATHS: [Row; 9] = [
         "source k 1 10 Syntax\n\
             export.f exec.u64::eq end\n\
             \x20        ^\n\
-            names have no path here: a procedure is named alone, as exec.eq\n",
+            names have no path here, and this kernel defines no procedure eq\n",
+    ),
+    (
+        Text("begin exec.u64::foo end proc.f end"),
+        None,
+        3,
+        "source p 1 7 Syntax\n\
+            begin exec.u64::foo end proc.f end\n\
+            \x20     ^\n\
+            names have no path here, and neither this source nor the library defines a procedure foo\n",
+    ),
+    (
+        Text("begin exec.a::f end proc.f end"),
+        None,
+        3,
+        "source p 1 7 Syntax\n\
+            begin exec.a::f end proc.f end\n\
+            \x20     ^\n\
+            names have no path here: a procedure is named alone, as exec.f\n",
+    ),
+    (
+        Text("begin call.a::u64_eq end"),
+        None,
+        3,
+        "source p 1 7 Syntax\n\
+            begin call.a::u64_eq end\n\
+            \x20     ^\n\
+            names have no path here: a procedure is named alone, as call.u64_eq\n",
     ),
     (
         Text("begin exec.a:b end"),
@@ -329,6 +356,288 @@ static PROCEDURES: [Row; 8] = [
     (Text("proc.add end begin add end"), None, 0, "assembled\n"),
 ];
 
+static HEADERS: [Row; 8] = [
+    (
+        Text("proc f add end begin end"),
+        None,
+        3,
+        "source p 1 1 Syntax\n\
+            proc f add end begin end\n\
+            ^\n\
+            proc is written proc.name, as proc.f\n",
+    ),
+    (
+        Text("begin end"),
+        Some(Text("export f end")),
+        3,
+        "source k 1 1 Syntax\n\
+            export f end\n\
+            ^\n\
+            export is written export.name, as export.f\n",
+    ),
+    (
+        Text("proc F add end begin end"),
+        None,
+        3,
+        "source p 1 1 Syntax\n\
+            proc F add end begin end\n\
+            ^\n\
+            proc is written proc.name or with .n behind, with a name in lower case and a number of locals\n",
+    ),
+    (
+        Text("proc f.1 add end begin end"),
+        None,
+        3,
+        "source p 1 1 Syntax\n\
+            proc f.1 add end begin end\n\
+            ^\n\
+            proc is written proc.name, as proc.f.1\n",
+    ),
+    (
+        Text("proc"),
+        None,
+        3,
+        "source p 1 1 Syntax\n\
+            proc\n\
+            ^\n\
+            proc is written proc.name or with .n behind, with a name in lower case and a number of locals\n",
+    ),
+    (
+        Text("pub proc f add end begin end"),
+        None,
+        3,
+        "source p 1 1 UnknownInstruction\n\
+            pub proc f add end begin end\n\
+            ^\n\
+            there is no pub: a procedure is proc.name, and only a kernel has export\n",
+    ),
+    (
+        Text("begin end"),
+        Some(Text("pub proc f add end")),
+        3,
+        "source k 1 1 UnknownInstruction\n\
+            pub proc f add end\n\
+            ^\n\
+            there is no pub: a procedure is proc.name, and one that programs may reach is export.name\n",
+    ),
+    (
+        Text("proc.pub end begin pub end"),
+        None,
+        3,
+        "source p 1 20 UnknownInstruction\n\
+            proc.pub end begin pub end\n\
+            \x20                  ^\n\
+            pub is a procedure: it is run by exec.pub or call.pub\n",
+    ),
+];
+
+static PARTS: [Row; 9] = [
+    (
+        Text("begin push.[1,2,3,4] end"),
+        None,
+        3,
+        "source p 1 7 Syntax\n\
+            begin push.[1,2,3,4] end\n\
+            \x20     ^\n\
+            a word is pushed as four numbers, as push.1.2.3.4\n",
+    ),
+    (
+        Text("begin push.1.[2 end"),
+        None,
+        3,
+        "source p 1 7 Syntax\n\
+            begin push.1.[2 end\n\
+            \x20     ^\n\
+            a word is pushed as four numbers, as push.1.2.3.4\n",
+    ),
+    (
+        Text("begin neg.[1] end"),
+        None,
+        3,
+        "source p 1 7 Syntax\n\
+            begin neg.[1] end\n\
+            \x20     ^\n\
+            a word is pushed as four numbers, as push.1.2.3.4\n",
+    ),
+    (
+        Text("begin push.1[ end"),
+        None,
+        3,
+        "source p 1 7 Syntax\n\
+            begin push.1[ end\n\
+            \x20     ^\n\
+            1[ is no number\n",
+    ),
+    (
+        Text("begin push.1 assert.err=5 end"),
+        None,
+        3,
+        "source p 1 14 Syntax\n\
+            begin push.1 assert.err=5 end\n\
+            \x20            ^\n\
+            there are no error codes: a trap tells its cause and its clock\n",
+    ),
+    (
+        Text("begin push.1 assert.err.5 end"),
+        None,
+        3,
+        "source p 1 14 Syntax\n\
+            begin push.1 assert.err.5 end\n\
+            \x20            ^\n\
+            there are no error codes: a trap tells its cause and its clock\n",
+    ),
+    (
+        Text("begin u32assert.err=A end"),
+        None,
+        3,
+        "source p 1 7 Syntax\n\
+            begin u32assert.err=A end\n\
+            \x20     ^\n\
+            there are no error codes: a trap tells its cause and its clock\n",
+    ),
+    (
+        Text("begin assert.errs end"),
+        None,
+        3,
+        "source p 1 7 Syntax\n\
+            begin assert.errs end\n\
+            \x20     ^\n\
+            assert wants no parameter, not 1\n",
+    ),
+    (
+        Text("begin assert.5 end"),
+        None,
+        3,
+        "source p 1 7 Syntax\n\
+            begin assert.5 end\n\
+            \x20     ^\n\
+            assert wants no parameter, not 1\n",
+    ),
+];
+
+static CONSTANTS: [Row; 10] = [
+    (
+        Text("const.A=2 const.B=A+1 begin end"),
+        None,
+        3,
+        "source p 1 11 Syntax\n\
+            const.A=2 const.B=A+1 begin end\n\
+            \x20         ^\n\
+            a constant is one number, without arithmetic and without another constant\n",
+    ),
+    (
+        Text("const.A=2*3 begin end"),
+        None,
+        3,
+        "source p 1 1 Syntax\n\
+            const.A=2*3 begin end\n\
+            ^\n\
+            a constant is one number, without arithmetic and without another constant\n",
+    ),
+    (
+        Text("const.A=-1 begin end"),
+        None,
+        3,
+        "source p 1 1 Syntax\n\
+            const.A=-1 begin end\n\
+            ^\n\
+            a constant is one number, without arithmetic and without another constant\n",
+    ),
+    (
+        Text("const.A=(1) begin end"),
+        None,
+        3,
+        "source p 1 1 Syntax\n\
+            const.A=(1) begin end\n\
+            ^\n\
+            a constant is one number, without arithmetic and without another constant\n",
+    ),
+    (
+        Text("const.A=4/2 begin end"),
+        None,
+        3,
+        "source p 1 1 Syntax\n\
+            const.A=4/2 begin end\n\
+            ^\n\
+            a constant is one number, without arithmetic and without another constant\n",
+    ),
+    (
+        Text("const.A=2 const.B=A begin end"),
+        None,
+        3,
+        "source p 1 11 Syntax\n\
+            const.A=2 const.B=A begin end\n\
+            \x20         ^\n\
+            a constant is one number, without arithmetic and without another constant\n",
+    ),
+    (
+        Text("const.A=1=B begin end"),
+        None,
+        3,
+        "source p 1 1 Syntax\n\
+            const.A=1=B begin end\n\
+            ^\n\
+            const is written const.NAME=v, with a name in upper case and a number\n",
+    ),
+    (
+        Text("const.A= begin end"),
+        None,
+        3,
+        "source p 1 1 Syntax\n\
+            const.A= begin end\n\
+            ^\n\
+            const is written const.NAME=v, with a name in upper case and a number\n",
+    ),
+    (
+        Text("const.A=0xG begin end"),
+        None,
+        3,
+        "source p 1 1 Syntax\n\
+            const.A=0xG begin end\n\
+            ^\n\
+            const is written const.NAME=v, with a name in upper case and a number\n",
+    ),
+    (
+        Text("const A=1 begin end"),
+        None,
+        3,
+        "source p 1 1 Syntax\n\
+            const A=1 begin end\n\
+            ^\n\
+            const is written const.NAME=v, with a name in upper case and a number\n",
+    ),
+];
+
+static BRANCHES: [Row; 3] = [
+    (
+        Text("begin if.false end end"),
+        None,
+        3,
+        "source p 1 7 Syntax\n\
+            begin if.false end end\n\
+            \x20     ^\n\
+            there is no if.false: its body stands behind the else of an if.true\n",
+    ),
+    (
+        Text("begin while.false end end"),
+        None,
+        3,
+        "source p 1 7 Syntax\n\
+            begin while.false end end\n\
+            \x20     ^\n\
+            while is written while.true\n",
+    ),
+    (
+        Text("begin if.false.1 end end"),
+        None,
+        3,
+        "source p 1 7 Syntax\n\
+            begin if.false.1 end end\n\
+            \x20     ^\n\
+            if is written if.true\n",
+    ),
+];
+
 #[test]
 fn imports_are_told(rt: HostRuntime) -> Result<(), Fail> {
     all_hold(&rt, &IMPORTS)
@@ -357,4 +666,24 @@ fn parameters_apart_are_told(rt: HostRuntime) -> Result<(), Fail> {
 #[test]
 fn procedures_alone_are_told(rt: HostRuntime) -> Result<(), Fail> {
     all_hold(&rt, &PROCEDURES)
+}
+
+#[test]
+fn headers_apart_are_told(rt: HostRuntime) -> Result<(), Fail> {
+    all_hold(&rt, &HEADERS)
+}
+
+#[test]
+fn brackets_and_error_codes_are_told(rt: HostRuntime) -> Result<(), Fail> {
+    all_hold(&rt, &PARTS)
+}
+
+#[test]
+fn expressions_are_told(rt: HostRuntime) -> Result<(), Fail> {
+    all_hold(&rt, &CONSTANTS)
+}
+
+#[test]
+fn branches_on_false_are_told(rt: HostRuntime) -> Result<(), Fail> {
+    all_hold(&rt, &BRANCHES)
 }

@@ -2,7 +2,7 @@ use crate::tests::content::Content::Text;
 use crate::tests::row::{Row, all_hold};
 use std::test::Fail;
 
-static RANGES: [Row; 7] = [
+static RANGES: [Row; 9] = [
     (
         Text("begin swap.16 end"),
         None,
@@ -12,6 +12,16 @@ static RANGES: [Row; 7] = [
             \x20     ^\n\
             swap takes numbers from 1 to 15, and 16 is none of them\n",
     ),
+    (
+        Text("begin u32assert.3 end"),
+        None,
+        3,
+        "source p 1 7 NumberRange\n\
+            begin u32assert.3 end\n\
+            \x20     ^\n\
+            u32assert takes 2 alone, and 3 is another number\n",
+    ),
+    (Text("begin u32assert.2 end"), None, 0, "assembled\n"),
     (
         Text("const.A=99 begin u32checked_shl.A end"),
         None,

@@ -35,7 +35,7 @@ static ENDS: [Row; 6] = [
     ),
 ];
 
-static PLACES: [Row; 5] = [
+static PLACES: [Row; 6] = [
     (
         Text("add"),
         None,
@@ -52,7 +52,16 @@ static PLACES: [Row; 5] = [
         "source p 1 1 Syntax\n\
             export.f end begin end\n\
             ^\n\
-            only a kernel has export: a kernel is named behind --kernel\n",
+            only a kernel has export: a kernel is named behind --kernel, and a program's procedure is proc.f\n",
+    ),
+    (
+        Text("export.counter.2 end begin end"),
+        None,
+        3,
+        "source p 1 1 Syntax\n\
+            export.counter.2 end begin end\n\
+            ^\n\
+            only a kernel has export: a kernel is named behind --kernel, and a program's procedure is proc.counter\n",
     ),
     (
         Text("begin end add"),
@@ -61,7 +70,7 @@ static PLACES: [Row; 5] = [
         "source p 1 11 Syntax\n\
             begin end add\n\
             \x20         ^\n\
-            nothing stands behind the end of begin\n",
+            nothing may stand behind the end of begin\n",
     ),
     (
         Text("begin else end"),

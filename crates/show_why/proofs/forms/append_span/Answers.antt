@@ -1,4 +1,4 @@
-use Rattle.show_why.proofs.forms.append_range.Goals as goal
+use Rattle.show_why.proofs.forms.append_span.Goals as goal
 
 pub returns : goal.returns
 returns c =
