@@ -1,5 +1,5 @@
 """What docs/CONSTRAINTS.md says of columns, constraints and buses, in the program that tells of traces: `crates/show_text` has the
-constraints in words, their parts and their sides, the columns, the buses in words and the fields of tuples. `.ci/pages.py` compares
+constraints in words, their parts, their terms and their sides, the columns, the buses in words and the fields of tuples. `.ci/pages.py` compares
 them, and `pages.py --write` writes the constraints in words, as code and as a definition."""
 from __future__ import annotations
 
@@ -10,7 +10,7 @@ import schema
 
 CODE = "crates/show_text/src"
 WORDS, COLUMNS, FIELDS = f"{CODE}/words.rt", f"{CODE}/columns.rt", f"{CODE}/explain.rt"
-PARTS, SIDES, BUSES = f"{CODE}/parts.rt", f"{CODE}/sides.rt", f"{CODE}/bus_words.rt"
+PARTS, TERMS, SIDES, BUSES = f"{CODE}/parts.rt", f"{CODE}/terms.rt", f"{CODE}/sides.rt", f"{CODE}/bus_words.rt"
 DEFINED = "crates/show_text/specs/Words.antt"
 BEGIN, END = " What docs/CONSTRAINTS.md says.\n", " The end of what it says.\n"
 
@@ -19,6 +19,8 @@ TEXT = re.compile(STRING, re.DOTALL)
 LIST = re.compile(r"const (\w+): \[[^=]*; \d+\] =\s*\[((?:" + STRING + r'|[^"])*?)\];\n', re.DOTALL)
 ROW = re.compile(r"\(\s*(\d+),\s*" + STRING + r",?\s*\)", re.DOTALL)
 PART = re.compile(r"first: (\d+),\s*last: (\d+),\s*pieces: &\[((?:" + STRING + r'|[^"])*?)\],\s*index: (\d+),', re.DOTALL)
+TERM = re.compile(r"number: (\d+),\s*ops: &\[([^\]]*)\],\s*text: " + STRING)
+FLAG = re.compile(r"\[([A-Z]\w*)\]")
 SIDE = re.compile(r"\((\d+), (\d+), Cell::")
 BUS = re.compile(r"Bus::(\w+) => (?:\{\s*)?" + STRING, re.DOTALL)
 INDEX = re.compile(r"\b[jq] = (\d+)\.\.(\d+)")
@@ -96,12 +98,48 @@ def part_findings(table: str, rows: list[tuple[list[tuple[int, int]], str, str]]
             yield f"{PARTS}:1: {schema.PAGE} has another index at {table} {first} than {index}"
 
 
+def terms_in_code() -> list[tuple[int, list[str], str]]:
+    """The number of each term, its operations as the page writes them, and its text."""
+    return [(int(number), [op[4:].upper() for op in re.findall(r"Op::\w+", ops)], read(text)) for number, ops, text in TERM.findall(text_of(TERMS))]
+
+
+def zeros_as_said() -> dict[int, str]:
+    """What must be 0 at each constraint of the main table: of a row with several numbers, at each its own."""
+    zeros = {}
+    for ranges, zero, _ in rows_as_said()["main"]:
+        parts = zero.split("; ")
+        for (first, last), part in zip(ranges, parts if len(parts) == len(ranges) else [zero] * len(ranges)):
+            zeros.update(dict.fromkeys(range(first, last + 1), part))
+    return zeros
+
+
+def term_findings() -> Iterator[str]:
+    """That each term is what the page says of its operations: at 119 its T, elsewhere what their flags stand in front of. And that a number
+    which has terms has one for each operation of its sum, or a side."""
+    tops = [cells for _, cells in schema.rows_below(text_of(schema.PAGE).splitlines(), "operation") if len(cells) == 2]
+    zeros, sides = zeros_as_said(), {int(first) for first, *_ in SIDE.findall(lists_in(SIDES)["main"])}
+    told: dict[int, set[str]] = {}
+    for number, ops, text in terms_in_code():
+        flags = " + ".join(f"[{op}]" for op in ops)
+        front = flags if len(ops) == 1 else f"({flags})"
+        told.setdefault(number, set()).update(ops)
+        pieces = "|".join(re.escape(f"{front}{piece}") for piece in (text, f" {text}", f"({text})"))
+        is_said = [ops[0], text] in tops if number == 119 else re.search(rf"(?:{pieces})(?= \+ [\[(T]|$)", zeros[number])
+        if not is_said:
+            yield f"{TERMS}:1: {schema.PAGE} does not say this of {number}: {flags} {text}"
+    for number, ops in told.items():
+        if number not in sides | {119} and set(FLAG.findall(zeros[number])) - ops:
+            yield f"{TERMS}:1: nothing is told of {number} and {min(set(FLAG.findall(zeros[number])) - ops)}"
+
+
 def told_findings() -> Iterator[str]:
-    """That parts are the page's, that sides have numbers of the page, and that each number has one of them where a row has several."""
+    """That parts are the page's, that sides have numbers of the page, and that each number has one of them, or terms, where a row has
+    several."""
     parts, sides = lists_in(PARTS), lists_in(SIDES)
     for table, rows in rows_as_said().items():
         yield from part_findings(table, rows, parts.get(table, ""))
         ranges = [(int(first), int(last)) for first, last, *_ in PART.findall(parts.get(table, "")) + SIDE.findall(sides.get(table, ""))]
+        ranges += [(number, number) for number, *_ in terms_in_code() if table == "main"]
         told = {number for first, last in ranges for number in range(first, last + 1)}
         wanted = {number for ranges, *_ in rows if ranges[0][0] < ranges[-1][1] for number in range(ranges[0][0], ranges[-1][1] + 1)}
         if told - set(range(1, rows[-1][0][-1][1] + 1)):
@@ -122,6 +160,7 @@ def words_findings() -> Iterator[str]:
     if buses_in_code() != buses_as_said():
         yield f"{BUSES}:1: this is not what {schema.PAGE} says of buses"
     yield from told_findings()
+    yield from term_findings()
 
 
 def code_text(name: str, rows: list[tuple[int, str]]) -> str:

@@ -7,10 +7,12 @@ use Rattle.air_kit.specs.declared.trace.TableName.{TableName}
 use Rattle.air_kit.specs.declared.trace.Trace.{Trace}
 use Rattle.buses.specs.declared.bus.Bus.{Bus}
 use Rattle.buses.specs.declared.bus.Bus.TheVariants as bus
+use Rattle.show_text.specs.Meanings.{kinds_of, meaning_line}
 use Rattle.show_text.specs.Parts.{Part, part_in, part_text, parts_of}
 use Rattle.show_text.specs.RowText.{rows_text}
-use Rattle.show_text.specs.Sides.{side_of, side_text}
+use Rattle.show_text.specs.Sides.{operation_at, side_of, side_text}
 use Rattle.show_text.specs.declared.sides.Side.{Side}
+use Rattle.show_text.specs.Terms.{term_of}
 use Rattle.show_text.specs.Words.{words_of}
 
 -- a constraint in words
@@ -22,17 +24,18 @@ abbrev pub value_line : ℕ → List ℕ
 value_line value =
     if nat_lt ((prime - 1) / 2) value then codes "value " ++ decimal value ++ codes " is -" ++ decimal (prime - value) ++ codes "\n" else []
 
--- the side of a constraint, or else the part of its words that is meant
-abbrev pub here_line : Fault → Option Side → Option Part → List ℕ
-here_line fault (Some side) part = codes "here " ++ side_text fault side ++ codes "\n"
-here_line fault None (Some part) = codes "here " ++ part_text fault.number part ++ codes "\n"
-here_line fault None None = []
+-- the side of a constraint, or else its term, or the part of its words that is meant
+abbrev pub here_line : Fault → Option Side → Option (List ℕ) → Option Part → List ℕ
+here_line fault (Some side) term part = codes "here " ++ side_text fault side ++ codes "\n"
+here_line fault None (Some term) part = codes "here " ++ term ++ codes "\n"
+here_line fault None None (Some part) = codes "here " ++ part_text fault.number part ++ codes "\n"
+here_line fault None None None = []
 
--- the value of a fault, its constraint with the cell or the part that is meant, and the cells that are not 0 of its row and of the next one
+-- the value of a fault, its constraint with the cell, the term or the part that is meant, and the cells that are not 0 of its row and of the next one
 abbrev pub fault_text : Trace → Fault → List ℕ
 fault_text trace fault =
     value_line fault.value ++ constraint_line fault.table fault.number
-    ++ here_line fault (side_of trace fault) (part_in fault.number (parts_of fault.table))
+    ++ here_line fault (side_of trace fault) (term_of fault.number (operation_at trace fault)) (part_in fault.number (parts_of fault.table))
     ++ rows_text trace fault.table fault.row (fault.row + 1)
 
 -- the fields of a bus's tuples, in their order (docs/CONSTRAINTS.md, "Buses")
@@ -62,6 +65,6 @@ abbrev pub fields_text : List (List ℕ) → List ℕ → List ℕ
 fields_text names tuple =
     flat_map (λ i. field_text (slice_index_or names i []) (slice_index tuple i)) (range_with_len 0 (min (length names) (length tuple)))
 
--- a bus's tuple by its fields
+-- a bus's tuple by its fields, and what its kind means
 abbrev pub tuple_text : Bus → List ℕ → List ℕ
-tuple_text bus tuple = codes "tuple" ++ fields_text (fields_of bus) tuple ++ codes "\n"
+tuple_text bus tuple = codes "tuple" ++ fields_text (fields_of bus) tuple ++ codes "\n" ++ meaning_line (kinds_of bus) tuple

@@ -1,4 +1,5 @@
--- What a constraint is within its row of docs/CONSTRAINTS.md, where that row has more than one number.
+-- What a constraint is within its row of docs/CONSTRAINTS.md, where that row has more than one number and the constraint is no sum over
+-- operations.
 use Rattle.std.specs.Prelude.{ℕ, ◌+◌, ◌-◌, nat_le, ◌&&◌, if◌then◌else◌, List, [], ◌∷◌, ◌++◌, map, codes, decimal, Option, Some, None}
 use Rattle.air_kit.specs.declared.trace.TableName.{TableName}
 use Rattle.air_kit.specs.declared.trace.TableName.TheVariants as table
@@ -41,11 +42,6 @@ parts_of table.Main =
     ∷ each 96 102 (codes "B u" ∷ codes " h" ∷ codes "" ∷ []) 1
     ∷ one 108 (codes "sp stay (1 - sp')")
     ∷ one 109 (codes "sp stay (128 h0' - z)")
-    ∷ each 119 134 (codes "T(op, " ∷ codes ")" ∷ []) 0
-    ∷ one 135 (codes "[EQZ] s0 s0'")
-    ∷ one 136 (codes "[EQ](s0 - s1) s0'")
-    ∷ one 137 (codes "([NOT] + [AND] + [OR] + [CSWAP] + [CSWAPW]) s0 (s0 - 1)")
-    ∷ one 138 (codes "([AND] + [OR]) s1 (s1 - 1)")
     ∷ one 140 (codes "Two (s0 - L(0))")
     ∷ one 141 (codes "Two (s1 - L(2))")
     ∷ one 142 (codes "Three (s2 - L(4))")

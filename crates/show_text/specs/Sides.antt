@@ -62,6 +62,8 @@ sides_of table.Main =
     ∷ (116, 116, next table.Main (codes "depth"))
     ∷ (118, 118, next table.Main (codes "key"))
     ∷ (119, 134, next table.Main (codes "s0"))
+    ∷ (143, 143, next table.Main (codes "s1"))
+    ∷ (144, 144, next table.Main (codes "s0"))
     ∷ []
 sides_of table.Range = (1, 1, here table.Range (codes "v")) ∷ (2, 2, here table.Range (codes "v")) ∷ []
 sides_of table.Hasher =
@@ -119,14 +121,30 @@ is_of_stack table.Memory number = false
 is_of_stack table.Kernel number = false
 is_of_stack table.Left number = false
 
--- the operation whose work a constraint compares, as its row spells it
-abbrev pub operation_at : Trace → Fault → Option Op
-operation_at t fault = if is_of_stack fault.table fault.number then option_and_then op_spelled (slice_get t.main fault.row) else None
+-- the operation that a row of the main table spells
+abbrev pub operation_in : TableName → List (List ℕ) → ℕ → Option Op
+operation_in table.Main main row = option_and_then op_spelled (slice_get main row)
+operation_in table.Range main row = None
+operation_in table.Hasher main row = None
+operation_in table.Bitwise main row = None
+operation_in table.Memory main row = None
+operation_in table.Kernel main row = None
+operation_in table.Left main row = None
 
--- what EQZ, EQ and INV leave on top is compared by a witness or as a factor, which does not tell what it must be
+-- that of a fault's row
+abbrev pub operation_at : Trace → Fault → Option Op
+operation_at t fault = operation_in fault.table t.main fault.row
+
+-- What EQZ, EQ and INV leave on top is compared by a witness or as a factor, and of a borrow it is said that it is a bit: this does not tell
+-- what the cell must be.
 abbrev pub is_untold : ℕ → Option Op → Bool
 is_untold number None = false
-is_untold number (Some op) = (number == 119) && (is_op op ops.Eqz || is_op op ops.Eq || is_op op ops.Inv)
+is_untold number (Some op) =
+    (number == 119) && (is_op op ops.Eqz || is_op op ops.Eq || is_op op ops.Inv) || (number == 144) && is_op op ops.U32Sub
+
+-- the operation whose work a constraint compares
+abbrev pub compared : Fault → Option Op → Option Op
+compared fault op = if is_of_stack fault.table fault.number then op else None
 
 -- the cell of a column in a row, where there are both
 abbrev pub cell_at : List (List ℕ) → ℕ → ℕ → Option ℕ
@@ -146,7 +164,7 @@ side_by t fault op (Some cell) = option_map (λ value. record { cell = cell; val
 abbrev pub side_of : Trace → Fault → Option Side
 side_of t fault =
     if is_untold fault.number (operation_at t fault) then None
-    else side_by t fault (operation_at t fault) (cell_in fault.number (sides_of fault.table))
+    else side_by t fault (compared fault (operation_at t fault)) (cell_in fault.number (sides_of fault.table))
 
 -- the name of a cell: a prime marks the next row
 abbrev pub name_of : TableName → Cell → List ℕ

@@ -1,18 +1,53 @@
-//! The rows of memory beside a tuple of the memory bus: those of its context, address and clock that give another one.
-ghost use Rattle.std.specs.Prelude.{◌≡◌, ◌++◌, OnOk};
-ghost use Rattle.show_text.specs.BesideText.{access_of, beside_line, beside_text, is_at, is_beside, lines_beside};
+//! Rows beside a tuple; and those of memory beside a tuple of the memory bus, which have its context, address and clock and give another
+//! one.
+ghost use Rattle.std.specs.Prelude.{◌≡◌, ◌<◌, [], ◌++◌, length, slice_get, slice_index_or, OnOk};
+ghost use Rattle.air_kit.specs.Traces.{rows_of};
+ghost use Rattle.show_text.specs.BesideText.{access_of, accesses_beside, beside_line, is_at, is_beside, lines_beside, row_beside};
 
-use crate::columns::column_names;
-use crate::rows::append_cells;
-use air_kit::{TableName, Trace};
+use crate::rows::append_line;
+use air_kit::{TableName, Trace, table_text};
 use buses::Bus;
 use chip_columns::MemoryView;
-use decimal_text::append_number;
 use vm_field::{Bytes, Felt, Memory};
-use vm_table::Table;
 
-// How many rows are told at most.
+// How many rows of memory are told at most.
 const MOST_BESIDE: usize = 16;
+
+/// Adds a row beside a tuple by its table and number, in the main table with its operation, and its cells that are not 0. Adds nothing where
+/// there is no such row.
+///
+/// # Errors
+///
+/// `Memory` where the system gave none for the longer text.
+pub fn append_row_beside(
+    text: &mut Bytes,
+    trace: &Trace,
+    table: TableName,
+    row: usize,
+) -> Result<(), Memory>
+    ensures { OnOk result (text.new ≡ text.old ++ row_beside table row (slice_get (rows_of trace.now table) row)) }
+{
+    if row < trace.rows(table) {
+        append_beside(text, trace, table, row)
+    } else {
+        Ok(())
+    }
+}
+
+fn append_beside(
+    text: &mut Bytes,
+    trace: &Trace,
+    table: TableName,
+    row: usize,
+) -> Result<(), Memory>
+    requires { row < length (rows_of trace.now table) }
+    ensures { OnOk result (text.new ≡ text.old ++ beside_line table row (slice_index_or (rows_of trace.now table) row [])) }
+{
+    text.append(b"beside ")?;
+    text.append(table_text(table).as_bytes())?;
+    text.append(b" ")?;
+    append_line(text, trace, table, row)
+}
 
 /// Adds the first rows of memory, 16 at most, that have the context, the address and the clock of a tuple of the memory bus and give
 /// another one: a line for each. Adds nothing for a tuple of another bus.
@@ -20,16 +55,16 @@ const MOST_BESIDE: usize = 16;
 /// # Errors
 ///
 /// `Memory` where the system gave none for the longer text.
-pub fn append_beside(
+pub fn append_accesses_beside(
     text: &mut Bytes,
     trace: &Trace,
     bus: Bus,
     tuple: &[Felt],
 ) -> Result<(), Memory>
-    ensures { OnOk result (text.new ≡ text.old ++ beside_text trace.now bus tuple.now) }
+    ensures { OnOk result (text.new ≡ text.old ++ accesses_beside trace.now bus tuple.now) }
 {
     match bus {
-        Bus::Memory => append_lines(text, &trace.memory, tuple),
+        Bus::Memory => append_lines(text, trace, tuple),
         Bus::Blocks
         | Bus::Children
         | Bus::Loops
@@ -42,27 +77,18 @@ pub fn append_beside(
     }
 }
 
-fn append_lines(text: &mut Bytes, memory: &Table<14>, tuple: &[Felt]) -> Result<(), Memory>
-    ensures { OnOk result (text.new ≡ text.old ++ lines_beside tuple.now memory.now) }
+fn append_lines(text: &mut Bytes, trace: &Trace, tuple: &[Felt]) -> Result<(), Memory>
+    ensures { OnOk result (text.new ≡ text.old ++ lines_beside tuple.now trace.now.memory) }
 {
     let mut told = 0;
-    for i in 0..memory.rows() {
-        let row = memory.row(i);
+    for i in 0..trace.memory.rows() {
+        let row = trace.memory.row(i);
         if told < MOST_BESIDE && is_beside(tuple, &row) {
-            append_line(text, i, &row)?;
+            append_beside(text, trace, TableName::Memory, i)?;
             told += 1;
         }
     }
     Ok(())
-}
-
-fn append_line<V: MemoryView>(text: &mut Bytes, number: usize, row: &V) -> Result<(), Memory>
-    ensures { OnOk result (text.new ≡ text.old ++ beside_line number (V.cells row.now)) }
-{
-    text.append(b"beside memory row ")?;
-    append_number(text, number as u64)?;
-    append_cells(text, column_names(TableName::Memory), row)?;
-    text.append(b"\n")
 }
 
 fn is_beside<V: MemoryView>(tuple: &[Felt], row: &V) -> bool

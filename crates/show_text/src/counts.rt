@@ -1,28 +1,33 @@
 //! How often the statement and rows ask and give a tuple.
-ghost use Rattle.std.specs.Prelude.{◌≡◌, ◌++◌, decimal, OnOk};
-ghost use Rattle.show_text.specs.CountText.{row_count_line, rows_line, statement_line, times_text};
+ghost use Rattle.std.specs.Prelude.{◌≡◌, ◌++◌, decimal, slice_get, OnOk};
+ghost use Rattle.show_text.specs.CountText.{operation_behind, operation_text, row_count_line, rows_line, statement_line, times_text};
 
-use air_kit::{TableName, table_text};
+use crate::run::append_operation;
+use air_kit::{TableName, Trace, table_text};
 use decimal_text::append_number;
 use vm_field::{Bytes, Memory};
+use vm_table::Table;
 
-/// Adds a row by its table and number, with how often it asks the tuple and how often it gives it, where that is not 0.
+/// Adds a row by its table and number, in the main table with its operation, and how often it asks the tuple and how often it gives it,
+/// where that is not 0.
 ///
 /// # Errors
 ///
 /// `Memory` where the system gave none for the longer text.
 pub fn append_row_count(
     text: &mut Bytes,
+    trace: &Trace,
     table: TableName,
     row: u32,
     asked: u128,
     given: u128,
 ) -> Result<(), Memory>
-    ensures { OnOk result (text.new ≡ text.old ++ row_count_line table row asked given) }
+    ensures { OnOk result (text.new ≡ text.old ++ row_count_line trace.now table row asked given) }
 {
     text.append(table_text(table).as_bytes())?;
     text.append(b" row ")?;
     append_number(text, u64::from(row))?;
+    append_operation_behind(text, trace, table, row as usize)?;
     append_times(text, b" asks ", asked)?;
     append_times(text, b" gives ", given)?;
     text.append(b"\n")
@@ -57,6 +62,37 @@ pub fn append_rows_line(text: &mut Bytes, asking: usize, giving: usize) -> Resul
     text.append(b" giving ")?;
     append_number(text, giving as u64)?;
     text.append(b"\n")
+}
+
+// The operation behind the number of a row of the main table.
+fn append_operation_behind(
+    text: &mut Bytes,
+    trace: &Trace,
+    table: TableName,
+    row: usize,
+) -> Result<(), Memory>
+    ensures { OnOk result (text.new ≡ text.old ++ operation_behind trace.now table row) }
+{
+    match table {
+        TableName::Main => append_operation_at(text, &trace.main, row),
+        TableName::Range
+        | TableName::Hasher
+        | TableName::Bitwise
+        | TableName::Memory
+        | TableName::Kernel
+        | TableName::Left => Ok(()),
+    }
+}
+
+fn append_operation_at(text: &mut Bytes, main: &Table<65>, row: usize) -> Result<(), Memory>
+    ensures { OnOk result (text.new ≡ text.old ++ operation_text (slice_get main.now row)) }
+{
+    if row < main.rows() {
+        text.append(b" ")?;
+        append_operation(text, &main.row(row))
+    } else {
+        Ok(())
+    }
 }
 
 // A count that is not 0, behind a word.

@@ -2,11 +2,14 @@
 ghost use Rattle.std.specs.Prelude.{◌≡◌, ◌++◌, codes, map, OnOk};
 ghost use Rattle.show_text.specs.ExplainText.{constraint_line, fault_text, field_text, fields_of, fields_text, here_line, tuple_text, value_line};
 ghost use Rattle.show_text.specs.Parts.{part_as_said, part_in, part_text, parts_of};
-ghost use Rattle.show_text.specs.Sides.{side_of, side_text};
+ghost use Rattle.show_text.specs.Sides.{operation_at, side_of, side_text};
+ghost use Rattle.show_text.specs.Terms.{term_of};
 
+use crate::meanings::append_meaning;
 use crate::parts::{Part, append_part, part_of};
 use crate::rows::append_rows;
-use crate::sides::{Side, append_side, side_of};
+use crate::sides::{Side, append_side, operation_at, side_of};
+use crate::terms::term_of;
 use crate::words::words_of;
 use air_kit::{Fault, TableName, Trace};
 use buses::Bus;
@@ -41,7 +44,7 @@ const KERNEL: [&str; 4] = ["d0", "d1", "d2", "d3"];
 const HALF: u64 = 9223372034707292160;
 
 /// Adds what is known of a fault: its value as a negative number where it is large, its constraint in words with the cell that is
-/// wrong or the part that is meant, and the cells that are not 0 of its row and of the next one.
+/// wrong, or its operation's term, or the part that is meant, and the cells that are not 0 of its row and of the next one.
 ///
 /// # Errors
 ///
@@ -70,15 +73,19 @@ fn append_value(text: &mut Bytes, value: Felt) -> Result<(), Memory>
     text.append(b"\n")
 }
 
-// The side of the constraint, or else the part of its words that is meant.
+// The side of the constraint, or else its term, or the part of its words that is meant.
 fn append_here(text: &mut Bytes, trace: &Trace, fault: &Fault) -> Result<(), Memory>
-    ensures { OnOk result (text.new ≡ text.old ++ here_line fault.now (side_of trace.now fault.now) (part_in fault.now.number (parts_of fault.now.table))) }
+    ensures { OnOk result (text.new ≡ text.old ++ here_line fault.now (side_of trace.now fault.now)
+        (term_of fault.now.number (operation_at trace.now fault.now)) (part_in fault.now.number (parts_of fault.now.table))) }
 {
     match side_of(trace, fault) {
         Some(side) => append_side_line(text, fault, &side),
-        None => match part_of(fault.table, fault.number) {
-            Some(part) => append_part_line(text, fault.number, &part),
-            None => Ok(()),
+        None => match term_of(fault.number, operation_at(trace, fault)) {
+            Some(term) => append_term_line(text, term),
+            None => match part_of(fault.table, fault.number) {
+                Some(part) => append_part_line(text, fault.number, &part),
+                None => Ok(()),
+            },
         },
     }
 }
@@ -88,6 +95,14 @@ fn append_side_line(text: &mut Bytes, fault: &Fault, side: &Side) -> Result<(), 
 {
     text.append(b"here ")?;
     append_side(text, fault, side)?;
+    text.append(b"\n")
+}
+
+fn append_term_line(text: &mut Bytes, term: &str) -> Result<(), Memory>
+    ensures { OnOk result (text.new ≡ text.old ++ (codes "here " ++ term.now ++ codes "\n")) }
+{
+    text.append(b"here ")?;
+    text.append(term.as_bytes())?;
     text.append(b"\n")
 }
 
@@ -109,7 +124,7 @@ fn append_constraint(text: &mut Bytes, table: TableName, number: u16) -> Result<
     Ok(())
 }
 
-/// Adds a bus's tuple by its fields.
+/// Adds a bus's tuple by its fields, and what its kind means, where it has one.
 ///
 /// # Errors
 ///
@@ -119,7 +134,8 @@ pub fn append_tuple(text: &mut Bytes, bus: Bus, tuple: &[Felt]) -> Result<(), Me
 {
     text.append(b"tuple")?;
     append_fields(text, fields_of(bus), tuple)?;
-    text.append(b"\n")
+    text.append(b"\n")?;
+    append_meaning(text, bus, tuple)
 }
 
 fn fields_of(bus: Bus) -> &'static [&'static str]

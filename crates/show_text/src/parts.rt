@@ -1,4 +1,5 @@
-//! What each constraint says in its row of docs/CONSTRAINTS.md, where that row has more than one number.
+//! What each constraint says in its row of docs/CONSTRAINTS.md, where that row has more than one number and the constraint is no sum over
+//! operations.
 ghost use Rattle.std.specs.Prelude.{◌≡◌, ◌++◌, map, option_map, OnOk};
 ghost use Rattle.show_text.specs.Parts.{part_as_said, part_in, part_text, parts_of, with_index};
 
@@ -16,7 +17,7 @@ pub(crate) struct Part {
     index: u16,
 }
 
-const MAIN: [Part; 24] = [
+const MAIN: [Part; 19] = [
     Part {
         first: 1,
         last: 7,
@@ -105,36 +106,6 @@ const MAIN: [Part; 24] = [
         first: 109,
         last: 109,
         pieces: &["sp stay (128 h0' - z)"],
-        index: 0,
-    },
-    Part {
-        first: 119,
-        last: 134,
-        pieces: &["T(op, ", ")"],
-        index: 0,
-    },
-    Part {
-        first: 135,
-        last: 135,
-        pieces: &["[EQZ] s0 s0'"],
-        index: 0,
-    },
-    Part {
-        first: 136,
-        last: 136,
-        pieces: &["[EQ](s0 - s1) s0'"],
-        index: 0,
-    },
-    Part {
-        first: 137,
-        last: 137,
-        pieces: &["([NOT] + [AND] + [OR] + [CSWAP] + [CSWAPW]) s0 (s0 - 1)"],
-        index: 0,
-    },
-    Part {
-        first: 138,
-        last: 138,
-        pieces: &["([AND] + [OR]) s1 (s1 - 1)"],
         index: 0,
     },
     Part {

@@ -31,8 +31,17 @@ pub fn append_rows(
     Ok(())
 }
 
-// The row of this number of a table.
-fn append_line(text: &mut Bytes, trace: &Trace, table: TableName, i: usize) -> Result<(), Memory>
+/// Adds the row of this number of a table.
+///
+/// # Errors
+///
+/// `Memory` where the system gave none for the longer text.
+pub(crate) fn append_line(
+    text: &mut Bytes,
+    trace: &Trace,
+    table: TableName,
+    i: usize,
+) -> Result<(), Memory>
     requires { i < length (rows_of trace.now table) }
     ensures { OnOk result (text.new ≡ text.old ++ line_of table i (slice_index_or (rows_of trace.now table) i [])) }
 {
@@ -75,12 +84,8 @@ fn append_row<const W: usize, V: View<W>>(
     text.append(b"\n")
 }
 
-/// Adds the cells that are not 0.
-///
-/// # Errors
-///
-/// `Memory` where the system gave none for the longer text.
-pub(crate) fn append_cells<const W: usize, V: View<W>>(
+// The cells that are not 0.
+fn append_cells<const W: usize, V: View<W>>(
     text: &mut Bytes,
     names: &[&str],
     row: &V,

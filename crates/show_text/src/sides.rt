@@ -1,9 +1,10 @@
 //! The sides of constraints: where what must be 0 is a cell less what the cell must be, the cell (docs/CONSTRAINTS.md).
-ghost use Rattle.std.specs.Prelude.{◌≡◌, ◌<◌, ◌++◌, IsTrue, OnOk};
+ghost use Rattle.std.specs.Prelude.{◌≡◌, ◌<◌, ◌++◌, slice_get, option_and_then, IsTrue, OnOk};
 ghost use Rattle.std.specs.List.{list_all};
 ghost use Rattle.vm_field.specs.Signs.{◌⊟◌};
 ghost use Rattle.air_kit.specs.Traces.{rows_of};
-ghost use Rattle.show_text.specs.Sides.{cell_at, cell_in, further, has_column, is_column, is_of_stack, is_untold, must_text, name_of, operation_at, side_of, side_text, sides_of, value_at};
+ghost use Rattle.show_text.specs.RunText.{op_spelled as op_by};
+ghost use Rattle.show_text.specs.Sides.{cell_at, cell_in, compared, further, has_column, is_column, is_of_stack, is_untold, must_text, name_of, operation_at, side_of, side_text, sides_of, value_at};
 
 use crate::columns::column_name;
 use crate::run::op_spelled;
@@ -35,7 +36,7 @@ pub(crate) struct Side {
 // Constraints from one number to another, and the cell of the first one; that of each later one lies a column further.
 type Sides = (u16, u16, Cell);
 
-const MAIN: [Sides; 29] = [
+const MAIN: [Sides; 31] = [
     (9, 9, Cell::Here(column::CLK)),
     (10, 10, Cell::Next(column::CLK)),
     (12, 12, Cell::Here(column::ADDR)),
@@ -65,6 +66,8 @@ const MAIN: [Sides; 29] = [
     (116, 116, Cell::Next(column::DEPTH)),
     (118, 118, Cell::Next(column::KEY)),
     (119, 134, Cell::Next(column::S)),
+    (143, 143, Cell::Next(column::S + 1)),
+    (144, 144, Cell::Next(column::S)),
 ];
 
 const RANGE: [Sides; 2] = [(1, 1, Cell::Here(1)), (2, 2, Cell::Here(1))];
@@ -105,16 +108,41 @@ pub(crate) fn side_of(trace: &Trace, fault: &Fault) -> Option<Side>
     }
     let cell = cell_in(fault.number, sides_of(fault.table))?;
     let value = value_at(trace, fault, cell)?;
+    let op = compared(fault, op);
     Some(Side { cell, value, op })
 }
 
-// The operation whose work a constraint compares, as its row spells it.
-fn operation_at(trace: &Trace, fault: &Fault) -> Option<Op>
+/// The operation that a fault's row spells, where it is one of the main table.
+pub(crate) fn operation_at(trace: &Trace, fault: &Fault) -> Option<Op>
     ensures { result ≡ operation_at trace.now fault.now }
 {
-    let row = fault.row as usize;
-    if is_of_stack(fault.table, fault.number) && row < trace.main.rows() {
-        op_spelled(&trace.main.row(row))
+    match fault.table {
+        TableName::Main => operation_in(&trace.main, fault.row as usize),
+        TableName::Range
+        | TableName::Hasher
+        | TableName::Bitwise
+        | TableName::Memory
+        | TableName::Kernel
+        | TableName::Left => None,
+    }
+}
+
+fn operation_in(main: &Table<65>, row: usize) -> Option<Op>
+    ensures { result ≡ option_and_then op_by (slice_get main.now row) }
+{
+    if row < main.rows() {
+        op_spelled(&main.row(row))
+    } else {
+        None
+    }
+}
+
+// The operation whose work the constraint compares.
+fn compared(fault: &Fault, op: Option<Op>) -> Option<Op>
+    ensures { result ≡ compared fault.now op }
+{
+    if is_of_stack(fault.table, fault.number) {
+        op
     } else {
         None
     }
@@ -135,7 +163,8 @@ fn is_of_stack(table: TableName, number: u16) -> bool
     }
 }
 
-// What EQZ, EQ and INV leave on top is compared by a witness or as a factor, which does not tell what it must be.
+// What EQZ, EQ and INV leave on top is compared by a witness or as a factor, and of a borrow it is said that it is a bit: this does not
+// tell what the cell must be.
 fn is_untold(number: u16, op: Option<Op>) -> bool
     ensures { result ≡ is_untold number op }
 {
@@ -146,6 +175,7 @@ fn is_untold(number: u16, op: Option<Op>) -> bool
                 && (opcode(op) == opcode(Op::Eqz)
                     || opcode(op) == opcode(Op::Eq)
                     || opcode(op) == opcode(Op::Inv))
+                || number == 144 && opcode(op) == opcode(Op::U32Sub)
         }
     }
 }
