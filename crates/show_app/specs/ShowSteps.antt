@@ -16,7 +16,7 @@ use Rattle.cmd_kit.specs.RefusalLines.{bus_line, fault_line}
 use Rattle.cmd_kit.specs.Starts.{params_steps, statement_steps, trace_steps}
 use Rattle.cmd_kit.specs.Steps.{End, Steps, Verdict, accepted, refused, asking, checked, ending, reading, stop}
 use Rattle.cmd_kit.specs.declared.status.Status.TheVariants as status
-use Rattle.show_text.specs.BesideText.{beside_text}
+use Rattle.show_text.specs.BesideText.{accesses_beside}
 use Rattle.show_text.specs.BusWords.{bus_words_line}
 use Rattle.show_text.specs.EvidenceText.{told_evidence}
 use Rattle.show_text.specs.ExplainText.{fault_text, tuple_text}
@@ -42,10 +42,11 @@ rows_steps table name first last = trace_steps table (λ trace. ending (stop sta
 abbrev pub faulty_text : Claim → Trace → Fault → List ℕ
 faulty_text claim trace fault = fault_line fault ++ fault_text trace fault ++ refused_rows (faults_of claim trace)
 
--- behind the line of `check`: the bus in words, the tuple's elements by name, the rows that ask and give it, and those beside them
+-- behind the line of `check`: the bus in words, the tuple's elements by name, the rows that ask and give it, those that its key says, and the
+-- accesses beside it
 abbrev pub tuple_lines : Claim → Trace → Bus → List ℕ → List ℕ
 tuple_lines claim trace bus tuple =
-    bus_words_line bus ++ tuple_text bus tuple ++ counted_text claim trace bus tuple ++ beside_text trace bus tuple
+    bus_words_line bus ++ tuple_text bus tuple ++ counted_text claim trace bus tuple ++ accesses_beside trace bus tuple
 
 abbrev pub bus_text : Claim → Trace → Bus → List ℕ → ℕ → ℕ → List ℕ
 bus_text claim trace bus tuple asked given = bus_line bus tuple asked given ++ tuple_lines claim trace bus tuple

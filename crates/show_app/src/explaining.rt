@@ -18,7 +18,7 @@ use air_kit::{Fault, Public, Trace};
 use buses::Bus;
 use checker::{Refused, Seed, check_buses, check_rows};
 use cmd_kit::{Outcome, Status, answered, load_params, load_statement, load_trace, refused_line};
-use show_text::{append_beside, append_bus, append_fault, append_tuple};
+use show_text::{append_accesses_beside, append_bus, append_fault, append_tuple};
 use std::alloc::Global;
 use std::thread::Threads;
 use vm_field::{Bytes, Felt, Memory};
@@ -181,6 +181,6 @@ fn bus_lines(
     append_bus(&mut text, bus)?;
     append_tuple(&mut text, bus, tuple)?;
     append_counted(&mut text, alloc, seed, trace, public, bus, tuple)?;
-    append_beside(&mut text, trace, bus, tuple)?;
+    append_accesses_beside(&mut text, trace, bus, tuple)?;
     Ok(text)
 }

@@ -46,6 +46,9 @@ static FIRST_ACCESS: [u64; 14] = [0, 0, 0, 0, 0, 0, 0, 0, 1, 0, 0, 0, 0, 0];
 
 static SAME_CLOCK: [u64; 14] = [1, 0, 0, 0, 1, 0, 0, 0, 0, 0, 18446744069414584320, 0, 0, 0];
 
+/// A row by its cells that are not 0: the number of each one's column, and its value.
+pub type Cells = &'static [Other];
+
 // Rows beside those of `begin end`.
 #[derive(Clone, Copy)]
 struct MoreRows {
@@ -60,6 +63,8 @@ struct MoreRows {
 pub enum Content {
     /// The table file of `begin end` under constants that are all 0, with other elements in these places, as long as so many bytes.
     Table(&'static [Other], usize),
+    /// That file with these rows in its main table in place of its own.
+    Main(&'static [Cells]),
     /// That file with so many rows more at the front of its range table, each of which gives 0 once.
     RangeRows(u64),
     /// That file with so many rows in its bitwise table, each with 2 in its column `op`.
@@ -76,6 +81,7 @@ pub enum Content {
 pub fn bytes_of(alloc: Global, content: &Content) -> Result<Vec<u8>, Memory> {
     match content {
         Content::Table(others, size) => table(alloc, others, more(0, 0, 0), *size),
+        Content::Main(rows) => main_table(alloc, rows),
         Content::RangeRows(count) => table(alloc, &[], more(*count, 0, 0), usize::MAX),
         Content::BitwiseRows(count) => table(alloc, &[], more(0, *count, 0), usize::MAX),
         Content::MemoryRows(count) => table(alloc, &[], more(0, 0, *count), usize::MAX),
@@ -120,6 +126,24 @@ fn table(alloc: Global, others: &[Other], more: MoreRows, size: usize) -> Result
         push_row(&mut bytes, access(number))?;
     }
     bytes.truncate(size);
+    Ok(bytes)
+}
+
+// These rows of the main table, and the other tables of `begin end`.
+fn main_table(alloc: Global, rows: &[Cells]) -> Result<Vec<u8>, Memory> {
+    let mut bytes = Vec::from_slice(alloc, b"MDTB")?;
+    for count in [2, rows.len() as u64, 42, 8, 0, 0, 0, 0] {
+        push_number(&mut bytes, count, 4)?;
+    }
+    for row in rows {
+        for column in 0..65usize {
+            push_number(&mut bytes, found(*row, column).unwrap_or(0), 8)?;
+        }
+    }
+    let mut range = 0u64;
+    for place in 260..464usize {
+        push_number(&mut bytes, range_element(place, &mut range), 8)?;
+    }
     Ok(bytes)
 }
 

@@ -10,7 +10,7 @@ loop-row-preserved c =
     let gives = c.one_of-giving.ensures.is in
     record {
       goes = rw (asks, gives)
-          (one_row_more c.loop-row.text _ c.loop-row.asking c.loop-row.giving c.loop-row.row-index c.args.rows.now _ (omega arith) (search rules)
+          (one_row_more c.args.trace.now c.loop-row.text _ c.loop-row.asking c.loop-row.giving c.loop-row.row-index c.args.rows.now _ (omega arith) (search rules)
           c.in_ok-append_told.ensures ∙ c.loop-row.invariant.goes);
       asking = omega (arith, c.one_of-asking.ensures.small);
       giving = omega (arith, c.one_of-giving.ensures.small);
@@ -19,5 +19,5 @@ loop-row-preserved c =
 pub returns : goal.returns
 returns c =
     on_ok_weaker c.append_rows_line.result (λ is.
-    none_more c.loop-row.text _ c.loop-row.asking c.loop-row.giving c.loop-row.row-index c.args.rows.now (omega arith) is
+    none_more c.args.trace.now c.loop-row.text _ c.loop-row.asking c.loop-row.giving c.loop-row.row-index c.args.rows.now (omega arith) is
     ∙ c.loop-row.invariant.goes) c.append_rows_line.ensures
