@@ -81,10 +81,11 @@ impl<'a, R: Files> Shelf for FolderShelf<'a, R> {
         }
     }
 
-    /// `Failed` is any fault of the system, and a write that takes nothing.
+    /// `Failed` is any fault of the system, and a write that takes nothing. It takes no memory.
     fn write(&mut self, _alloc: Global, name: &str, bytes: &[u8]) -> Result<(), WriteStop>
         ensures step { WriteStep (untold_shelf self.old) (untold_shelf self.new) name.now bytes.now result }
         ensures counted { IsErrOf result WriteStop.Failed → self.new.writes ≡ one_more self.old.writes }
+        ensures memory { IsErrOf result WriteStop.Memory → ⊥ }
     {
         match save(self.rt, name, bytes) {
             Ok(()) => Ok(()),
@@ -95,7 +96,8 @@ impl<'a, R: Files> Shelf for FolderShelf<'a, R> {
         }
     }
 
-    /// `Failed` is any fault of the system, and a write that takes nothing. It keeps no more than one piece in memory.
+    /// `Failed` is any fault of the system, and a write that takes nothing. It keeps no more than one piece in memory, and
+    /// takes none itself.
     fn write_pieces<P: Pieces>(
         &mut self,
         _alloc: Global,
@@ -104,6 +106,7 @@ impl<'a, R: Files> Shelf for FolderShelf<'a, R> {
     ) -> Result<(), WriteStop>
         ensures step { WriteStep (untold_shelf self.old) (untold_shelf self.new) name.now (P.rest pieces.old) result }
         ensures counted { IsErrOf result WriteStop.Failed → self.new.writes ≡ one_more self.old.writes }
+        ensures memory { IsErrOf result WriteStop.Memory → ⊥ }
     {
         match save_pieces(self.rt, name, pieces) {
             Ok(()) => Ok(()),

@@ -37,10 +37,11 @@ impl<'a, R: Print> Sink for StdSink<'a, R> {
 
     ghost state = { untold_sink };
 
-    /// `Failed` is any fault of the system, and a write that takes nothing.
+    /// `Failed` is any fault of the system, and a write that takes nothing. It takes no memory.
     fn write(&mut self, _alloc: Global, bytes: &[u8]) -> Result<(), SinkStop>
         ensures step { SinkStep (untold_sink self.old) (untold_sink self.new) bytes.now result }
         ensures counted { IsErrOf result SinkStop.Failed → self.new ≡ one_more self.old }
+        ensures memory { IsErrOf result SinkStop.Memory → ⊥ }
     {
         match write_whole(&mut io::writer(self.rt), bytes) {
             Ok(()) => Ok(()),
