@@ -81,7 +81,7 @@ impl<'a, R: Files> Shelf for FolderShelf<'a, R> {
         }
     }
 
-    /// `Failed` is any fault of the system, and a write that takes nothing. It takes no memory.
+    /// `Failed` is any fault of the system, and a write that takes nothing. It never answers `Memory`.
     fn write(&mut self, _alloc: Global, name: &str, bytes: &[u8]) -> Result<(), WriteStop>
         ensures step { WriteStep (untold_shelf self.old) (untold_shelf self.new) name.now bytes.now result }
         ensures counted { IsErrOf result WriteStop.Failed → self.new.writes ≡ one_more self.old.writes }

@@ -37,7 +37,7 @@ impl<'a, R: Print> Sink for StdSink<'a, R> {
 
     ghost state = { untold_sink };
 
-    /// `Failed` is any fault of the system, and a write that takes nothing. It takes no memory.
+    /// `Failed` is any fault of the system, and a write that takes nothing. It never answers `Memory`.
     fn write(&mut self, _alloc: Global, bytes: &[u8]) -> Result<(), SinkStop>
         ensures step { SinkStep (untold_sink self.old) (untold_sink self.new) bytes.now result }
         ensures counted { IsErrOf result SinkStop.Failed → self.new ≡ one_more self.old }

@@ -58,9 +58,11 @@ fn ascending(
     Ok(marks)
 }
 
-/// Marks procedures to which no use of theirs leads back, in time that is linear in the uses: all
-/// others have a use that leads back.
-// Each use leads to a number that is not less, so none leads back from a greater number.
+/// Marks procedures to which no use of theirs leads back, in time that is linear in the uses. Of those
+/// without a mark, also past the end of the marks, nothing is said: whether a use of theirs leads back
+/// has to be searched.
+// Each use leads to a number that is not less, so none leads back from a greater number. The numbers are
+// those of components, so that the others do have a use that leads back: but that rests on no clause.
 pub fn settled(
     alloc: Global,
     rows: &[Vec<Link>],
