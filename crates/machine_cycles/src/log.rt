@@ -6,7 +6,7 @@ ghost use Rattle.machine_cycles.specs.Log.{ShowsAt};
 ghost use Rattle.machine_cycles.specs.declared.log.Use.TheVariants.{Operation};
 
 use crate::event::{Event, Visible};
-use crate::names::{Likely, Lists, Names, ZEROS, cells_named, elements_named, number};
+use crate::names::{Likely, Lists, Names, ZEROS, cells_named, elements_named};
 use std::alloc::Global;
 use std::marker::Model;
 use vm_field::{Felt, Memory, Word};
@@ -31,9 +31,9 @@ enum Use {
 struct Kept {
     top: [Felt; 4],
     result: Felt,
-    clock: u32,
-    depth: u32,
+    depth: usize,
     names: Names,
+    clock: u32,
     op: Op,
     kind: Use,
 }
@@ -165,16 +165,18 @@ impl Events {
             } ∷ []) }
         ensures err { OnErr result (self.new ≡ self.old) }
     {
-        let depth = number(before.depth)?;
-        let names = self
-            .lists
-            .names(likely_behind(&self.items, depth), before, elements, plain)?;
+        let names = self.lists.names(
+            likely_behind(&self.items, before.depth),
+            before,
+            elements,
+            plain,
+        )?;
         self.items.push(Kept {
             top: top_cells(&before.cells),
             result: top,
-            clock: before.clock,
-            depth,
+            depth: before.depth,
             names,
+            clock: before.clock,
             op,
             kind,
         })?;
@@ -195,7 +197,7 @@ impl Events {
         ensures { ShowsAt self.now place (λ e. result ≡ e.before) }
     {
         let kept = &self.items[place];
-        let scene = &self.lists.scenes[kept.names.scene as usize];
+        let scene = &self.lists.scenes[kept.names.scene];
         Visible {
             clock: kept.clock,
             context: scene.context,
@@ -203,8 +205,8 @@ impl Events {
             in_syscall: scene.in_syscall,
             digest: scene.digest,
             nesting: scene.nesting,
-            depth: kept.depth as usize,
-            cells: cells_named(&kept.top, &self.lists.cells, kept.names.lower as usize),
+            depth: kept.depth,
+            cells: cells_named(&kept.top, &self.lists.cells, kept.names.lower),
         }
     }
 
@@ -254,7 +256,7 @@ impl Events {
 }
 
 // From the latest event, and how deep the stack is behind it: the cells move with the depth.
-fn likely_behind(items: &[Kept], depth: u32) -> Likely {
+fn likely_behind(items: &[Kept], depth: usize) -> Likely {
     match items.last() {
         None => Likely { scene: 0, near: 0 },
         Some(kept) => Likely {

@@ -8,7 +8,7 @@ use vm_field::{Felt, Memory, Word};
 pub(crate) const ZEROS: [Felt; 8] = [Felt::ZERO; 8];
 
 // So many of the latest scenes are looked through for one that comes again.
-const RECENT: u32 = 8;
+const RECENT: usize = 8;
 
 // What of the state before a cycle blocks, calls and the frame pointer's operation change alone.
 #[derive(Clone, Copy, Drop)]
@@ -24,16 +24,16 @@ pub(crate) struct Scene {
 // the fourth, and the number of its elements, which is their place and one, or 0 where they are zeros.
 #[derive(Clone, Copy, Drop)]
 pub(crate) struct Names {
-    pub scene: u32,
-    pub lower: u32,
-    pub elements: u32,
+    pub scene: usize,
+    pub lower: usize,
+    pub elements: usize,
 }
 
 // Where a scene and cells are likely to stand.
 #[derive(Clone, Copy, Drop)]
 pub(crate) struct Likely {
-    pub scene: u32,
-    pub near: u32,
+    pub scene: usize,
+    pub near: usize,
 }
 
 // What events show, each part of it once, in place of once for each event.
@@ -44,7 +44,7 @@ pub(crate) struct Lists {
     pub cells: Vec<Felt>,
     pub uses: Vec<[Felt; 8]>,
     // the numbers of elements that were named lately, each in the slot of what is in them
-    found: [u32; 64],
+    found: [usize; 64],
 }
 
 impl Lists {
@@ -86,14 +86,6 @@ impl Lists {
     }
 }
 
-// The number of 32 bits. A list of 2^32 places is refused as one is that finds no memory: it would take 32 GiB at least, and a run of at
-// most 2^19 cycles, of which each adds at most twelve cells, has none.
-pub(crate) fn number(place: usize) -> Result<u32, Memory>
-    ensures { IfOk result (λ n. n ≡ place) }
-{
-    u32::try_from(place).map_err(|_| Memory::Memory)
-}
-
 // The scene of a state.
 fn scene_of(before: &Visible) -> Scene
     ensures { result ≡ scene_of before.now }
@@ -126,10 +118,10 @@ fn is_alike(a: &Scene, b: &Scene) -> bool
 }
 
 // Whether a scene stands at a place.
-fn is_at(scenes: &[Scene], place: u32, scene: &Scene) -> bool
+fn is_at(scenes: &[Scene], place: usize, scene: &Scene) -> bool
     ensures { IsTrue result → (place < length scenes.now) × (slice_index_or scenes.now place nowhere ≡ scene.now) }
 {
-    match scenes.get(place as usize) {
+    match scenes.get(place) {
         Some(known) => is_same(known, scene),
         None => false,
     }
@@ -137,7 +129,7 @@ fn is_at(scenes: &[Scene], place: u32, scene: &Scene) -> bool
 
 // The place of a state's scene in a list, to which it is added where it is neither at the likely
 // place nor one of the latest.
-fn name_scene(scenes: &mut Vec<Scene>, likely: u32, before: &Visible) -> Result<u32, Memory>
+fn name_scene(scenes: &mut Vec<Scene>, likely: usize, before: &Visible) -> Result<usize, Memory>
     ensures more { (more : List Scene) × (scenes.new.items ≡ scenes.old.items ++ more) }
     ensures is { IfOk result (λ place. (place < length scenes.new.items) × (slice_index_or scenes.new.items place nowhere ≡ scene_of before.now)) }
 {
@@ -145,7 +137,7 @@ fn name_scene(scenes: &mut Vec<Scene>, likely: u32, before: &Visible) -> Result<
     if is_at(scenes, likely, &scene) {
         return Ok(likely);
     }
-    let count = number(scenes.len())?;
+    let count = scenes.len();
     for place in count.saturating_sub(RECENT)..count {
         if is_at(scenes, place, &scene) {
             return Ok(place);
@@ -200,31 +192,31 @@ fn lacks_one(list: &[Felt], place: usize, lower: &[Felt; 12]) -> bool
 
 // The place of a state's cells below the fourth in a list of cells, to which those that are missing
 // are added. They may stand near a place.
-fn name_lower(list: &mut Vec<Felt>, near: u32, cells: &[Felt; 16]) -> Result<u32, Memory>
+fn name_lower(list: &mut Vec<Felt>, near: usize, cells: &[Felt; 16]) -> Result<usize, Memory>
     ensures more { (more : List ℕ) × (list.new.items ≡ list.old.items ++ more) }
     ensures is { IfOk result (λ place. Stands list.new.items place (reverse (drop 4 cells.now))) }
 {
     let lower = lower_cells(cells);
-    if stands(list, near as usize, &lower) {
+    if stands(list, near, &lower) {
         return Ok(near);
     }
-    if lacks_one(list, near as usize, &lower) {
+    if lacks_one(list, near, &lower) {
         list.push(lower[11])?;
         return Ok(near);
     }
     let place = list.len();
     list.extend_from_slice(&lower)?;
-    number(place)
+    Ok(place)
 }
 
 // The number of eight elements in a list, to which they are added where they are neither zeros, which
 // may be known, nor those that were named last in their slot.
 fn name_elements(
     uses: &mut Vec<[Felt; 8]>,
-    found: &mut [u32; 64],
+    found: &mut [usize; 64],
     elements: &[Felt; 8],
     plain: bool,
-) -> Result<u32, Memory>
+) -> Result<usize, Memory>
     requires { IsTrue plain → elements.now ≡ zeros }
     ensures more { (more : List (List ℕ)) × (uses.new.items ≡ uses.old.items ++ more) }
     ensures is { IfOk result (λ n. (n ≤ length uses.new.items) × (named zeros uses.new.items n ≡ elements.now)) }
@@ -241,7 +233,7 @@ fn name_elements(
         return Ok(known);
     }
     uses.push(*elements)?;
-    let n = number(uses.len())?;
+    let n = uses.len();
     found[slot] = n;
     Ok(n)
 }
@@ -258,10 +250,10 @@ fn slot_of(elements: &[Felt; 8]) -> usize
 }
 
 // Whether a number names these elements.
-fn is_named(uses: &[[Felt; 8]], n: u32, elements: &[Felt; 8]) -> bool
+fn is_named(uses: &[[Felt; 8]], n: usize, elements: &[Felt; 8]) -> bool
     ensures { IsTrue result → (n ≤ length uses.now) × (named zeros uses.now n ≡ elements.now) }
 {
-    match (n as usize).checked_sub(1) {
+    match n.checked_sub(1) {
         None => false,
         Some(place) => match uses.get(place) {
             None => false,
@@ -271,11 +263,11 @@ fn is_named(uses: &[[Felt; 8]], n: u32, elements: &[Felt; 8]) -> bool
 }
 
 // The eight elements that a number names.
-pub(crate) fn elements_named(uses: &[[Felt; 8]], n: u32) -> [Felt; 8]
+pub(crate) fn elements_named(uses: &[[Felt; 8]], n: usize) -> [Felt; 8]
     requires { n ≤ length uses.now }
     ensures { result ≡ named zeros uses.now n }
 {
-    match (n as usize).checked_sub(1) {
+    match n.checked_sub(1) {
         None => ZEROS,
         Some(place) => uses[place],
     }

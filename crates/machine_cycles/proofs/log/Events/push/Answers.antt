@@ -6,7 +6,7 @@ use Rattle.machine_cycles.proofs.log.Events.push.Goals as goal
 
 pub returns-in_err-names-clause-err : goal.returns-in_err-names-clause-err
 returns-in_err-names-clause-err c =
-    on_err c.from_residual-in_err-names.result
+    on_err c.from_residual.result
     (events-kept c.self.inside.lists c.names.new.self c.names.ensures.grown c.self.inside.items.items c.self.invariant ∙ c.self.view_is)
 
 pub invariant_of-self-in_err-push : goal.invariant_of-self-in_err-push
@@ -30,4 +30,4 @@ returns-clause-ok c =
     events-next c.self.inside.lists c.names.new.self c.names.ensures.grown c.self.inside.items.items c.push.new.self.items _ c.self.invariant
     c.in_ok-push.ensures.items
     ∙ ap₂ (λ (es : List Event) (e : Event). es ++ e ∷ []) c.self.view_is
-    (kept-shows c.names.new.self _ c.args.before.now c.args.elements.now c.in_ok-names.ensures.named refl c.in_ok-depth.ensures c.top_cells.ensures)
+    (kept-shows c.names.new.self _ c.args.before.now c.args.elements.now c.in_ok-names.ensures.named refl refl c.top_cells.ensures)
