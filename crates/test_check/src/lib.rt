@@ -14,6 +14,8 @@ mod making;
 #[cfg(test)]
 mod programs;
 #[cfg(test)]
+mod refused_rows;
+#[cfg(test)]
 mod runs;
 #[cfg(test)]
 mod tests;
