@@ -1,4 +1,4 @@
-use crate::shelf::{checked, put_trace, ran, set, trace_in};
+use super::shelf::{checked, put_trace, ran, set, trace_in};
 use air_kit::Trace;
 use std::alloc::Global;
 use std::process::Abort;

@@ -1,4 +1,4 @@
-use crate::shelf::{checked, element, put_trace, zeros};
+use super::shelf::{checked, element, put_trace, zeros};
 use air_kit::Trace;
 use rpo_hash::{Params, round};
 use std::alloc::Global;

@@ -12,12 +12,12 @@ static RUN: [&str; 8] = ["run", "z", "s", "i", "--out", "t", "--statement", "u"]
 static CHECK: [&str; 6] = ["check", "z", "t", "u", "--evidence", "e"];
 
 /// The element of this number.
-pub(crate) fn element(number: u64) -> Felt {
+pub(super) fn element(number: u64) -> Felt {
     Felt::try_from_u64(number).unwrap_or(Felt::ZERO)
 }
 
 /// A shelf with constants that are all 0 and with what a run of this program without inputs writes.
-pub(crate) fn ran(
+pub(super) fn ran(
     rt: &(impl Threads + Sync),
     alloc: Global,
     source: &str,
@@ -31,7 +31,7 @@ pub(crate) fn ran(
 }
 
 /// 168 lines, each `0`.
-pub(crate) fn zeros(alloc: Global) -> Result<Vec<u8>, Memory> {
+pub(super) fn zeros(alloc: Global) -> Result<Vec<u8>, Memory> {
     let mut text = Vec::new(alloc);
     for _ in 0..168 {
         text.push(b'0')?;
@@ -41,7 +41,7 @@ pub(crate) fn zeros(alloc: Global) -> Result<Vec<u8>, Memory> {
 }
 
 /// What `check` prints of the files of the shelf.
-pub(crate) fn checked(
+pub(super) fn checked(
     rt: &(impl Threads + Sync),
     alloc: Global,
     shelf: &mut MemShelf,
@@ -74,12 +74,12 @@ fn said(
 }
 
 /// The trace in the table file of the shelf, if there is one.
-pub(crate) fn trace_in(alloc: Global, shelf: &MemShelf) -> Option<Trace> {
+pub(super) fn trace_in(alloc: Global, shelf: &MemShelf) -> Option<Trace> {
     decode(alloc, shelf.get("t")?).ok()
 }
 
 /// Puts the table file of a trace on the shelf, and answers whether it has as many rows as it may.
-pub(crate) fn put_trace(
+pub(super) fn put_trace(
     alloc: Global,
     shelf: &mut MemShelf,
     trace: &Trace,
@@ -92,7 +92,7 @@ pub(crate) fn put_trace(
 }
 
 /// Changes a cell, and answers whether there is one.
-pub(crate) fn set<const W: usize>(
+pub(super) fn set<const W: usize>(
     table: &mut Table<W>,
     row: usize,
     column: usize,

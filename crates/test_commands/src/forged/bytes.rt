@@ -1,4 +1,4 @@
-use crate::shelf::{checked, ran, zeros};
+use super::shelf::{checked, ran, zeros};
 use std::alloc::Global;
 use std::test::Fail;
 use std::thread::Threads;
