@@ -7,9 +7,10 @@
 The tables of crates in docs/ARCHITECTURE.md and docs/CLAUSES.md have one row for each crate of crates.txt, in its order; the second
 cells of the former are what the crates say of themselves. Paths and links lead somewhere, and README.md names each page.
 examples/traces/schema.json is what docs/CONSTRAINTS.md says of columns, constraints and buses, and so are the tables of
-crates/show_text. The commands of README.md and of the pages in RUN_PAGES print what is shown below them, those of a page one after another
-in a folder of their own, and a table of which a cell is changed is refused, or still has evidence. These last two need the programs that
-`rt ci` leaves, since nothing here builds them. Sections of a page that build something with cargo are passed over where there is no cargo.
+crates/show_constraints and crates/show_text. The commands of README.md and of the pages in RUN_PAGES print what is shown below them,
+those of a page one after another in a folder of their own, and a table of which a cell is changed is refused, or still has evidence. These
+last two need the programs that `rt ci` leaves, since nothing here builds them. Sections of a page that build something with cargo are
+passed over where there is no cargo.
 """
 from __future__ import annotations
 

@@ -1,6 +1,6 @@
-"""What docs/CONSTRAINTS.md says of columns, constraints and buses, in the program that tells of traces: `crates/show_text` has the
-constraints in words, their parts, their terms and their sides, the columns, the buses in words and the fields of tuples. `.ci/pages.py` compares
-them, and `pages.py --write` writes the constraints in words, as code and as a definition."""
+"""What docs/CONSTRAINTS.md says of columns, constraints and buses, in the program that tells of traces: `crates/show_constraints` has the
+constraints in words, their parts and their terms, the columns and the buses in words, and `crates/show_text` the sides of constraints and the
+fields of tuples. `.ci/pages.py` compares them, and `pages.py --write` writes the constraints in words, as code and as a definition."""
 from __future__ import annotations
 
 import re
@@ -8,10 +8,11 @@ from collections.abc import Iterator
 
 import schema
 
-CODE = "crates/show_text/src"
-WORDS, COLUMNS, FIELDS = f"{CODE}/words.rt", f"{CODE}/columns.rt", f"{CODE}/explain.rt"
-PARTS, TERMS, SIDES, BUSES = f"{CODE}/parts.rt", f"{CODE}/terms.rt", f"{CODE}/sides.rt", f"{CODE}/bus_words.rt"
-DEFINED = "crates/show_text/specs/Words.antt"
+CODE, TELLING = "crates/show_constraints/src", "crates/show_text/src"
+WORDS, COLUMNS, BUSES = f"{CODE}/words.rt", f"{CODE}/columns.rt", f"{CODE}/bus_words.rt"
+PARTS, TERMS = f"{CODE}/parts.rt", f"{CODE}/terms.rt"
+SIDES, FIELDS = f"{TELLING}/sides.rt", f"{TELLING}/explain.rt"
+DEFINED = "crates/show_constraints/specs/Words.antt"
 BEGIN, END = " What docs/CONSTRAINTS.md says.\n", " The end of what it says.\n"
 
 STRING = r'"((?:[^"\\]|\\.)*)"'

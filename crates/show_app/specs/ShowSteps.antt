@@ -16,8 +16,8 @@ use Rattle.cmd_kit.specs.RefusalLines.{bus_line, fault_line}
 use Rattle.cmd_kit.specs.Starts.{params_steps, statement_steps, trace_steps}
 use Rattle.cmd_kit.specs.Steps.{End, Steps, Verdict, accepted, refused, asking, checked, ending, reading, stop}
 use Rattle.cmd_kit.specs.declared.status.Status.TheVariants as status
+use Rattle.show_constraints.specs.BusWords.{bus_words_line}
 use Rattle.show_text.specs.BesideText.{accesses_beside}
-use Rattle.show_text.specs.BusWords.{bus_words_line}
 use Rattle.show_text.specs.EvidenceText.{told_evidence}
 use Rattle.show_text.specs.ExplainText.{fault_text, tuple_text}
 use Rattle.show_text.specs.RowText.{rows_text}

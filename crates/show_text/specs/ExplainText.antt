@@ -7,13 +7,13 @@ use Rattle.air_kit.specs.declared.trace.TableName.{TableName}
 use Rattle.air_kit.specs.declared.trace.Trace.{Trace}
 use Rattle.buses.specs.declared.bus.Bus.{Bus}
 use Rattle.buses.specs.declared.bus.Bus.TheVariants as bus
-use Rattle.show_text.specs.Meanings.{kinds_of, meaning_line}
-use Rattle.show_text.specs.Parts.{Part, part_in, part_text, parts_of}
+use Rattle.show_constraints.specs.Meanings.{kinds_of, meaning_line}
+use Rattle.show_constraints.specs.Parts.{Part, part_in, part_text, parts_of}
+use Rattle.show_constraints.specs.Terms.{term_of}
+use Rattle.show_constraints.specs.Words.{words_of}
 use Rattle.show_text.specs.RowText.{rows_text}
 use Rattle.show_text.specs.Sides.{operation_at, side_of, side_text}
 use Rattle.show_text.specs.declared.sides.Side.{Side}
-use Rattle.show_text.specs.Terms.{term_of}
-use Rattle.show_text.specs.Words.{words_of}
 
 -- a constraint in words
 abbrev pub constraint_line : TableName → ℕ → List ℕ

@@ -1,16 +1,10 @@
 pub mod BesideText
-pub mod BusWords
-pub mod Columns
 pub mod CountText
 pub mod EvidenceLines
 pub mod EvidenceText
 pub mod ExplainText
 pub mod KeyRows
-pub mod Meanings
-pub mod Parts
 pub mod Reads
 pub mod RowText
 pub mod RunText
 pub mod Sides
-pub mod Terms
-pub mod Words

@@ -7,7 +7,7 @@ use Rattle.air_kit.specs.Traces.{rows_of}
 use Rattle.air_kit.specs.declared.trace.TableName.{TableName}
 use Rattle.air_kit.specs.declared.trace.TableName.TheVariants as table
 use Rattle.air_kit.specs.declared.trace.Trace.{Trace}
-use Rattle.show_text.specs.Columns.{columns_of}
+use Rattle.show_constraints.specs.Columns.{columns_of}
 use Rattle.show_text.specs.RunText.{name_or_number, op_spelled}
 
 -- a cell that is not 0: a space, the column's name and the value

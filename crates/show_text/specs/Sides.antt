@@ -13,7 +13,7 @@ use Rattle.air_kit.specs.declared.fault.Fault.{Fault}
 use Rattle.air_kit.specs.declared.trace.TableName.{TableName}
 use Rattle.air_kit.specs.declared.trace.TableName.TheVariants as table
 use Rattle.air_kit.specs.declared.trace.Trace.{Trace}
-use Rattle.show_text.specs.Columns.{columns_of}
+use Rattle.show_constraints.specs.Columns.{columns_of}
 use Rattle.show_text.specs.RunText.{op_spelled}
 use Rattle.show_text.specs.declared.sides.Cell.{Cell}
 use Rattle.show_text.specs.declared.sides.Cell.TheVariants.{Here, Next, Rows}

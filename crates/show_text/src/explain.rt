@@ -1,19 +1,16 @@
 //! What a refusal speaks of: the row of a fault with its constraint in words, and a tuple by its fields.
 ghost use Rattle.std.specs.Prelude.{◌≡◌, ◌++◌, codes, map, OnOk};
+ghost use Rattle.show_constraints.specs.Parts.{part_as_said, part_in, part_text, parts_of};
+ghost use Rattle.show_constraints.specs.Terms.{term_of};
 ghost use Rattle.show_text.specs.ExplainText.{constraint_line, fault_text, field_text, fields_of, fields_text, here_line, tuple_text, value_line};
-ghost use Rattle.show_text.specs.Parts.{part_as_said, part_in, part_text, parts_of};
 ghost use Rattle.show_text.specs.Sides.{operation_at, side_of, side_text};
-ghost use Rattle.show_text.specs.Terms.{term_of};
 
-use crate::meanings::append_meaning;
-use crate::parts::{Part, append_part, part_of};
 use crate::rows::append_rows;
 use crate::sides::{Side, append_side, operation_at, side_of};
-use crate::terms::term_of;
-use crate::words::words_of;
 use air_kit::{Fault, TableName, Trace};
 use buses::Bus;
 use decimal_text::append_number;
+use show_constraints::{Part, append_meaning, append_part, part_of, term_of, words_of};
 use vm_field::{Bytes, Felt, Memory};
 
 const BLOCKS: [&str; 12] = [

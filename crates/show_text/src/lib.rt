@@ -3,24 +3,16 @@
 #![tactic(auto)]
 
 mod beside;
-mod bus_words;
-mod columns;
 mod counts;
 mod evidence;
 mod explain;
 mod form;
 mod keys;
-mod meanings;
-mod parts;
 mod rows;
 mod run;
 mod sides;
-mod terms;
-mod words;
 
 pub use beside::{append_accesses_beside, append_row_beside};
-pub use bus_words::append_bus;
-pub use columns::column_names;
 pub use counts::{append_row_count, append_rows_line, append_statement_count};
 pub use evidence::{EvidenceError, told_evidence};
 pub use explain::{append_fault, append_tuple};

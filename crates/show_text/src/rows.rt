@@ -3,10 +3,10 @@ ghost use Rattle.std.specs.Prelude.{◌≡◌, ◌≤◌, ◌<◌, ◌^◌, [], 
 ghost use Rattle.air_kit.specs.Traces.{rows_of};
 ghost use Rattle.show_text.specs.RowText.{cell_text, cells_text, line_of, main_line, row_line, rows_text};
 
-use crate::columns::column_names;
 use crate::run::append_operation;
 use air_kit::{TableName, Trace};
 use decimal_text::append_number;
+use show_constraints::column_names;
 use vm_field::{Bytes, Felt, Memory};
 use vm_table::{MainView, View};
 

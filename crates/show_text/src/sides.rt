@@ -6,10 +6,10 @@ ghost use Rattle.air_kit.specs.Traces.{rows_of};
 ghost use Rattle.show_text.specs.RunText.{op_spelled as op_by};
 ghost use Rattle.show_text.specs.Sides.{cell_at, cell_in, compared, further, has_column, is_column, is_of_stack, is_untold, must_text, name_of, operation_at, side_of, side_text, sides_of, value_at};
 
-use crate::columns::column_name;
 use crate::run::op_spelled;
 use air_kit::{Fault, TableName, Trace, table_text};
 use decimal_text::append_number;
+use show_constraints::column_name;
 use vm_field::{Bytes, Felt, Memory};
 use vm_ops::{Op, opcode};
 use vm_table::{Table, View, column};

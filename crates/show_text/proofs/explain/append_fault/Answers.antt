@@ -1,10 +1,10 @@
 use Rattle.std.proofs.Common.{◌+◌}
 use Rattle.std.proofs.lemmas.Result.{on_ok_weaker}
+use Rattle.show_constraints.specs.Parts.{part_in, parts_of}
+use Rattle.show_constraints.specs.Terms.{term_of}
 use Rattle.show_text.specs.ExplainText.{constraint_line, here_line, value_line}
-use Rattle.show_text.specs.Parts.{part_in, parts_of}
 use Rattle.show_text.specs.RowText.{rows_text}
 use Rattle.show_text.specs.Sides.{operation_at, side_of}
-use Rattle.show_text.specs.Terms.{term_of}
 use Rattle.show_text.proofs.Lines.{then_more}
 use Rattle.show_text.proofs.explain.append_fault.Goals as goal
 

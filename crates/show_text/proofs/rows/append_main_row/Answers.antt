@@ -3,7 +3,7 @@ use Rattle.std.proofs.lemmas.Result.{on_ok_weaker}
 use Rattle.vm_table.specs.MainColumns.{b}
 use Rattle.air_kit.specs.Flags.{spelled}
 use Rattle.air_kit.specs.declared.trace.TableName.TheVariants as table
-use Rattle.show_text.specs.Columns.{columns_of}
+use Rattle.show_constraints.specs.Columns.{columns_of}
 use Rattle.show_text.specs.RowText.{cells_text}
 use Rattle.show_text.specs.RunText.{name_or_number, op_spelled}
 use Rattle.show_text.proofs.Lines.{then_more}

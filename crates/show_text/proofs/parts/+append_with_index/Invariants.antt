@@ -1,5 +1,0 @@
-use Rattle.std.proofs.Common.{length}
-use Rattle.show_text.proofs.parts.+append_with_index.Given as goal
-
-abbrev pub decreases-append_with_index : goal.decreases-append_with_index
-decreases-append_with_index l = length l.pieces.now
