@@ -1,5 +1,4 @@
 pub mod Blanks
-pub mod LibraryNames
 pub mod Moved
 pub mod MovedLists
 pub mod WhyLemmas

@@ -3,7 +3,7 @@ use Rattle.std.specs.Prelude.{ℕ, Bool, true, false, ◌==◌, ◌&&◌, not, L
 use Rattle.masm_tree.specs.Classify.{classify}
 use Rattle.masm_tree.specs.declared.refusal.Cause.{Cause}
 use Rattle.masm_tree.specs.declared.refusal.Cause.TheVariants as parsing
-use Rattle.show_why.specs.Forms.{is_procedure}
+use Rattle.show_tokens.specs.Forms.{is_procedure}
 use Rattle.show_why.specs.Scenes.{Scene}
 
 abbrev pub is_syntax : Option Cause → Bool

@@ -2,12 +2,14 @@
 use Rattle.std.specs.Prelude.{ℕ, Bool, List, [], unwrap_or}
 use Rattle.masm_link.specs.declared.refusal.AsmCause.{AsmCause}
 use Rattle.masm_link.specs.declared.refusal.AsmCause.TheVariants as causes
-use Rattle.show_why.specs.Forms.{parameter}
+use Rattle.show_tokens.specs.Foreign.{unsupported_line}
+use Rattle.show_tokens.specs.Forms.{parameter}
+use Rattle.show_tokens.specs.Numbers.{number_line}
+use Rattle.show_tokens.specs.Unnamed.{unnamed_line}
 use Rattle.show_why.specs.Lines.{byte_at}
 use Rattle.show_why.specs.Scenes.{last_header}
-use Rattle.show_why.specs.Sentences.{back_line, byte_line, deep_line, duplicate_line, exports_line, kept_line, locals_line, not_exported_line, number_line, operations_line, syntax_line, unknown_line, unsupported_line}
+use Rattle.show_why.specs.Sentences.{back_line, byte_line, deep_line, duplicate_line, exports_line, kept_line, locals_line, not_exported_line, operations_line, syntax_line, unknown_line}
 use Rattle.show_why.specs.Sights.{Sight, first_of, more_of}
-use Rattle.show_why.specs.Unnamed.{unnamed_line}
 
 -- the sentence of a cause; `given` says whether there is a kernel
 abbrev pub fact_line : Bool → Bool → List ℕ → ℕ → ℕ → Sight → AsmCause → List ℕ

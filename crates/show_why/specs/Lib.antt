@@ -1,15 +1,10 @@
 pub mod Alone
 pub mod Facts
-pub mod Foreign
-pub mod Forms
 pub mod Lines
 pub mod Neighbours
-pub mod OtherNames
-pub mod Paths
 pub mod RefusalLaws
 pub mod Scenes
 pub mod Sentences
 pub mod Sights
-pub mod Unnamed
 pub mod Views
 pub mod WhySteps

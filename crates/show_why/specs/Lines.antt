@@ -1,6 +1,6 @@
 -- A line of a source as it is shown, with a mark under a place of it (docs/SHOW.md, "why").
 use Rattle.std.specs.Prelude.{ℕ, ◌-◌, nat_le, ◌==◌, ◌&&◌, if◌then◌else◌, List, [], ◌++◌, codes, map, replicate, slice_index, slice_index_or, take}
-use Rattle.std.specs.List.{flat_map, slice_split}
+use Rattle.std.specs.List.{slice_split}
 
 -- of a line so many bytes are shown
 abbrev pub most_shown : ℕ
@@ -25,7 +25,3 @@ mark_line column = if nat_le column most_shown then replicate (column - 1) 32 ++
 -- the line of a place, and the mark under it
 abbrev pub shown_line : List ℕ → ℕ → ℕ → List ℕ
 shown_line text line column = map shown_byte (take most_shown (line_at text line)) ++ codes "\n" ++ mark_line column
-
--- words and texts, one behind the other, as a line
-unfoldable pub sentence : List (List ℕ) → List ℕ
-sentence pieces = flat_map (λ piece. piece) pieces ++ codes "\n"

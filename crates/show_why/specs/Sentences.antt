@@ -1,9 +1,7 @@
 -- Sentences on refused tokens (docs/SHOW.md, "why"), with the facts of their places.
-use Rattle.std.specs.Prelude.{ℕ, ◌==◌, Bool, true, false, ◌||◌, if◌then◌else◌, List, [], ◌∷◌, codes, decimal, find, length, slice_index_or, Option, Some, None, option_map, unwrap_or}
-use Rattle.std.specs.List.{list_any, slice_split}
+use Rattle.std.specs.Prelude.{ℕ, ◌==◌, Bool, true, false, ◌||◌, if◌then◌else◌, List, [], ◌∷◌, codes, decimal, find, slice_index_or, Option, Some, None, option_map, unwrap_or}
+use Rattle.std.specs.List.{slice_split}
 use Rattle.std.specs.Str.{bytes_eq}
-use Rattle.masm_instr.specs.Instructions.{is_count}
-use Rattle.masm_instr.specs.declared.form.Form.{Form}
 use Rattle.masm_lex.specs.declared.list.Token.{Token}
 use Rattle.masm_lex.specs.Tokens.{text_of}
 use Rattle.masm_reading.specs.declared.constant.Const.{Const}
@@ -11,11 +9,11 @@ use Rattle.masm_tree.specs.declared.terminal.Header.{Header}
 use Rattle.masm_tree.specs.declared.terminal.Role.{Role}
 use Rattle.masm_tree.specs.declared.terminal.Role.TheVariants as roles
 use Rattle.masm_tree.specs.declared.tree.Position.{Position}
+use Rattle.show_tokens.specs.Foreign.{apart_line, has_semicolon, is_apart, name_apart_line, separator_line}
+use Rattle.show_tokens.specs.Forms.{is_procedure, parameter}
+use Rattle.show_tokens.specs.Parts.{parts_line}
+use Rattle.show_tokens.specs.Words.{sentence, word}
 use Rattle.show_why.specs.Alone.{is_malformed, lacks_name}
-use Rattle.show_why.specs.Foreign.{apart_line, error_line, expression_line, has_expression, has_semicolon, if_false_line, imports_line, is_apart, is_bracket, is_error, is_if_false, separator_line, name_apart_line, word_line}
-use Rattle.show_why.specs.Forms.{count_line, first_no_number, first_outside, form_by, is_procedure, no_number_line, parameter, range_line, word, written, written_line}
-use Rattle.show_why.specs.Lines.{sentence}
-use Rattle.show_why.specs.Paths.{has_path, path_line, pieces_of}
 use Rattle.show_why.specs.Scenes.{Scene, innermost, last_header}
 use Rattle.show_why.specs.Sights.{Sight, first_of, more_of}
 
@@ -34,13 +32,6 @@ exports_line = sentence (codes "a kernel exports at most 255 procedures" ∷ [])
 -- TooManyOps
 abbrev pub operations_line : List ℕ
 operations_line = sentence (codes "its tree has more than 524288 operations" ∷ [])
-
--- Unsupported; `exp` alone would take its exponent from the stack
-abbrev pub unsupported_line : Bool → List ℕ → List ℕ
-unsupported_line kernel first =
-    if bytes_eq first (codes "use") then imports_line kernel
-    else if bytes_eq first (codes "exp") then sentence (codes "exp is written with its exponent, as exp.5" ∷ [])
-    else sentence (codes "this machine has no " ∷ word first ∷ [])
 
 -- the source ends early
 abbrev pub end_line : List ℕ → Option Token → List ℕ
@@ -88,41 +79,6 @@ abbrev pub misplaced_line : List ℕ → List ℕ → List (List ℕ) → Scene 
 misplaced_line text first more scene None = outside_line first more (has_begun (last_header scene))
 misplaced_line text first more scene (Some token) = inside_line text first token
 
--- a part that gives no number, where each other one gives one
-abbrev pub part_line : Form → Option (List ℕ) → List ℕ
-part_line form None = []
-part_line form (Some part) = no_number_line form part
-
--- parameters of the wrong count, or one that gives no number
-abbrev pub counted_line : List Const → List ℕ → List (List ℕ) → Option Form → List ℕ
-counted_line consts first more None = []
-counted_line consts first more (Some form) =
-    if is_count form (length more) then part_line form (first_no_number consts form more) else count_line first form (length more)
-
--- parameters of a wrong form: a word in brackets, an error code, or others
-abbrev pub parameters_line : List Const → List ℕ → List (List ℕ) → List ℕ
-parameters_line consts first more =
-    if list_any is_bracket more then word_line
-    else if list_any is_error more then error_line
-    else counted_line consts first more (form_by first)
-
--- a token of a wrong form, by how it is written
-abbrev pub form_line : List Const → List ℕ → List (List ℕ) → Option (List ℕ) → List ℕ
-form_line consts first more (Some form) = written_line first form
-form_line consts first more None = parameters_line consts first more
-
--- a token of a wrong form, by its parts: if.false, a constant that is not one number, or another one
-abbrev pub plain_line : List Const → List ℕ → List (List ℕ) → List ℕ
-plain_line consts first more =
-    if is_if_false first more then if_false_line
-    else if has_expression first more then expression_line
-    else form_line consts first more (written first)
-
--- a token of a wrong form, by its parts: a use with a path, or another one
-abbrev pub parts_line : Bool → List Header → List Const → List ℕ → List (List ℕ) → List ℕ
-parts_line kernel procedures consts first more =
-    if has_path first more then path_line kernel procedures first (pieces_of (parameter more)) else plain_line consts first more
-
 -- a token of a wrong form: with a ;, without the number or the name that stands behind it, or another one
 abbrev pub malformed_line : Bool → Sight → List ℕ → List ℕ
 malformed_line kernel sight token =
@@ -138,21 +94,6 @@ syntax_line kernel text sight None = end_line text (innermost sight.scene)
 syntax_line kernel text sight (Some token) =
     if is_malformed kernel sight.scene token then malformed_line kernel sight token
     else misplaced_line text (first_of sight) (more_of sight) sight.scene (innermost sight.scene)
-
--- NumberRange, of a parameter
-abbrev pub outside_part_line : List ℕ → Form → Option (List ℕ) → List ℕ
-outside_part_line first form None = []
-outside_part_line first form (Some part) = range_line first form part
-
-abbrev pub numbers_line : List Const → List ℕ → List (List ℕ) → Option Form → List ℕ
-numbers_line consts first more None = []
-numbers_line consts first more (Some form) = outside_part_line first form (first_outside consts form more)
-
--- NumberRange
-abbrev pub number_line : List Const → List ℕ → List (List ℕ) → List ℕ
-number_line consts first more =
-    if bytes_eq first (codes "const") then sentence (codes "a constant is at most 18446744069414584320" ∷ [])
-    else numbers_line consts first more (form_by first)
 
 -- a local's number that is not below the count of locals
 abbrev pub local_line : List ℕ → ℕ → Option Header → List ℕ

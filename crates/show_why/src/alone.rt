@@ -1,12 +1,12 @@
 //! Tokens by themselves, wherever they stand.
 ghost use Rattle.std.specs.Prelude.{◌≡◌, map, option_map, IfOk};
-ghost use Rattle.show_why.specs.Alone.{is_malformed, lacks_name, joined_token};
+ghost use Rattle.show_why.specs.Alone.{is_malformed, joined_token, lacks_name};
 ghost use Rattle.show_why.specs.Views.{scene_view};
 
-use crate::forms::is_procedure;
 use crate::scene::Scene;
 use crate::sight::text_or_nothing;
 use masm_tree::{Cause, Position, classify};
+use show_tokens::is_procedure;
 use std::alloc::Global;
 use vm_field::{Bytes, Memory};
 

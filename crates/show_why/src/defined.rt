@@ -2,9 +2,9 @@
 ghost use Rattle.std.specs.Prelude.{◌≡◌, IfOk};
 ghost use Rattle.show_why.specs.Sentences.{constant_name, constant_place, procedure_place};
 
-use crate::sight::first_part;
 use masm_reading::{Const, split};
 use masm_tree::{Header, Position};
+use show_tokens::first_part;
 use std::alloc::Global;
 use vm_field::Memory;
 

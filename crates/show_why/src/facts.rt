@@ -7,14 +7,14 @@ ghost use Rattle.show_why.specs.Views.{IsSight};
 use crate::lines::byte_at;
 use crate::sentences::{
     append_back, append_byte, append_deep, append_duplicate, append_exports, append_kept,
-    append_locals, append_not_exported, append_number_line, append_operations, append_unknown,
-    append_unsupported,
+    append_locals, append_not_exported, append_operations, append_unknown,
 };
-use crate::sight::{Sight, first_part, later_parts, sight_at};
+use crate::sight::{Sight, later_parts, sight_at};
 use crate::syntax::append_syntax;
 use crate::unnamed::append_unnamed;
 use masm_lex::MAX_SOURCE;
 use masm_link::AsmCause;
+use show_tokens::{append_number_line, append_unsupported, first_part};
 use std::alloc::Global;
 use vm_field::{Bytes, Memory};
 

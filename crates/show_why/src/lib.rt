@@ -5,13 +5,9 @@
 mod alone;
 mod defined;
 mod facts;
-mod foreign;
-mod forms;
 mod laws;
 mod lines;
 mod neighbours;
-mod other_names;
-mod paths;
 mod scene;
 mod sentences;
 mod sight;

@@ -1,9 +1,9 @@
 //! A line of a source as it is shown, with a mark under a place of it.
-ghost use Rattle.std.specs.Prelude.{◌≡◌, [], ◌∷◌, ◌++◌, drop, map, replicate, take, IfOk, OnOk};
-ghost use Rattle.show_why.specs.Lines.{byte_at, line_at, mark_line, sentence, shown_byte, shown_line};
-ghost use Rattle.std.specs.List.{flat_map};
+ghost use Rattle.std.specs.Prelude.{◌≡◌, ◌++◌, map, replicate, IfOk, OnOk};
+ghost use Rattle.show_why.specs.Lines.{byte_at, line_at, mark_line, shown_byte, shown_line};
 
 use masm_reading::split;
+use show_tokens::front;
 use std::alloc::Global;
 use vm_field::{Bytes, Memory};
 
@@ -85,49 +85,4 @@ pub(crate) fn append_line(
     append_shown(text, front(found, MOST_SHOWN))?;
     text.append(b"\n")?;
     append_mark(text, column)
-}
-
-// Adds words and texts, one behind the other, as a line.
-#[tactic(auto, unfolding(crate::specs::Lines::sentence))]
-pub(crate) fn append_sentence(text: &mut Bytes, pieces: &[&[u8]]) -> Result<(), Memory>
-    ensures { OnOk result (text.new ≡ text.old ++ sentence (map (λ piece. piece.now) pieces.now)) }
-{
-    append_pieces(text, pieces)?;
-    text.append(b"\n")
-}
-
-// A sentence of two pieces.
-pub(crate) fn append_both<'t>(
-    text: &mut Bytes,
-    one: &'t [u8],
-    other: &'t [u8],
-) -> Result<(), Memory>
-    ensures { OnOk result (text.new ≡ text.old ++ sentence (one.now ∷ other.now ∷ [])) }
-{
-    append_sentence(text, &[one, other])
-}
-
-fn append_pieces(text: &mut Bytes, pieces: &[&[u8]]) -> Result<(), Memory>
-    ensures { OnOk result (text.new ≡ text.old ++ flat_map (λ piece. piece) (map (λ piece. piece.now) pieces.now)) }
-{
-    for piece in pieces {
-        text.append(piece)?;
-    }
-    Ok(())
-}
-
-// The bytes of a text, at most so many.
-#[tactic(auto, using(std::proofs::lemmas::List::take_min))]
-pub(crate) fn front(text: &[u8], most: usize) -> &[u8]
-    ensures { result.now ≡ take most text.entry.now }
-{
-    &text[..most.min(text.len())]
-}
-
-// The bytes of a text behind so many.
-#[tactic(auto, using(std::proofs::lemmas::List::drop_min))]
-pub(crate) fn behind(text: &[u8], count: usize) -> &[u8]
-    ensures { result.now ≡ drop count text.entry.now }
-{
-    &text[count.min(text.len())..]
 }

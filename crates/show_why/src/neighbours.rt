@@ -1,12 +1,11 @@
 //! What the rest of a source says of one token.
 ghost use Rattle.std.specs.Prelude.{◌≡◌, IfOk};
-ghost use Rattle.show_why.specs.Neighbours.{has_header, is_procedure_of, scene_of, token_behind};
+ghost use Rattle.show_why.specs.Neighbours.{scene_of, token_behind};
 ghost use Rattle.show_why.specs.Scenes.{nothing_before};
 ghost use Rattle.show_why.specs.Views.{scene_view};
 
 use crate::scene::{Scene, stands_at};
 use masm_lex::Token;
-use masm_tree::Header;
 use std::alloc::Global;
 use vm_field::Memory;
 
@@ -40,22 +39,4 @@ pub(crate) fn scene_of(
         scene.pass(*token, symbol.terminal)?;
     }
     Ok(scene)
-}
-
-fn has_header(procedures: &[Header], name: &[u8]) -> bool
-    ensures { result ≡ has_header procedures.now name.now }
-{
-    for header in procedures {
-        if header.name.as_slice() == name {
-            return true;
-        }
-    }
-    false
-}
-
-// Whether one of these procedures has the name.
-pub(crate) fn is_procedure_of(procedures: &[Header], name: &[u8]) -> bool
-    ensures { result ≡ is_procedure_of procedures.now name.now }
-{
-    !name.is_empty() && has_header(procedures, name)
 }

@@ -1,18 +1,13 @@
-//! Sentences on one refused token: its name, its numbers, the procedure in which it stands.
+//! Sentences on one refused token: its name, its local, the procedure in which it stands.
 ghost use Rattle.std.specs.Prelude.{◌≡◌, ◌++◌, map, option_map, OnOk};
-ghost use Rattle.show_why.specs.Sentences.{back_line, byte_line, deep_line, deep_text, defined_line, duplicate_line, exporter, exports_line, first_line, is_header, kept_line, local_line, locals_line, not_exported_line, number_line, numbers_line, operations_line, outside_part_line, unknown_line, unsupported_line};
+ghost use Rattle.show_why.specs.Sentences.{back_line, byte_line, deep_line, deep_text, defined_line, duplicate_line, exporter, exports_line, first_line, is_header, kept_line, local_line, locals_line, not_exported_line, operations_line, unknown_line};
 ghost use Rattle.show_why.specs.Views.{scene_view};
 
 use crate::defined::{constant_name, constant_place, procedure_place};
-use crate::foreign::append_imports;
-use crate::forms::{append_range, first_outside, form_by, is_procedure, word};
-use crate::lines::{append_both, append_sentence};
 use crate::scene::Scene;
-use crate::sight::first_part;
 use itoa::Buffer;
-use masm_instr::Form;
-use masm_reading::Consts;
 use masm_tree::{Header, Position};
+use show_tokens::{append_both, append_sentence, first_part, is_procedure, word};
 use std::alloc::Global;
 use vm_field::{Bytes, Memory};
 
@@ -41,65 +36,6 @@ pub(crate) fn append_operations(text: &mut Bytes) -> Result<(), Memory>
     ensures { OnOk result (text.new ≡ text.old ++ operations_line) }
 {
     append_sentence(text, &[b"its tree has more than 524288 operations"])
-}
-
-pub(crate) fn append_unsupported(
-    text: &mut Bytes,
-    is_kernel: bool,
-    first: &[u8],
-) -> Result<(), Memory>
-    ensures { OnOk result (text.new ≡ text.old ++ unsupported_line is_kernel first.now) }
-{
-    if first == b"use".as_slice() {
-        return append_imports(text, is_kernel);
-    }
-    if first == b"exp".as_slice() {
-        return append_sentence(text, &[b"exp is written with its exponent, as exp.5"]);
-    }
-    append_sentence(text, &[b"this machine has no ", word(first)])
-}
-
-fn append_outside_part(
-    text: &mut Bytes,
-    first: &[u8],
-    form: &Form,
-    part: Option<&[u8]>,
-) -> Result<(), Memory>
-    ensures { OnOk result (text.new ≡ text.old ++ outside_part_line first.now form.now (option_map (λ part. part.now) part.entry)) }
-{
-    match part {
-        Some(part) => append_range(text, first, form, part),
-        None => Ok(()),
-    }
-}
-
-fn append_numbers(
-    text: &mut Bytes,
-    consts: &Consts,
-    first: &[u8],
-    more: &[&[u8]],
-    form: Option<Form>,
-) -> Result<(), Memory>
-    ensures { OnOk result (text.new ≡ text.old ++ numbers_line consts.now first.now (map (λ part. part.now) more.now) form) }
-{
-    match form {
-        Some(form) => append_outside_part(text, first, &form, first_outside(consts, &form, more)),
-        None => Ok(()),
-    }
-}
-
-pub(crate) fn append_number_line(
-    text: &mut Bytes,
-    consts: &Consts,
-    first: &[u8],
-    more: &[&[u8]],
-) -> Result<(), Memory>
-    ensures { OnOk result (text.new ≡ text.old ++ number_line consts.now first.now (map (λ part. part.now) more.now)) }
-{
-    if first == b"const".as_slice() {
-        return append_sentence(text, &[b"a constant is at most 18446744069414584320"]);
-    }
-    append_numbers(text, consts, first, more, form_by(first))
 }
 
 fn append_local(

@@ -1,5 +1,5 @@
 //! What is seen at a place of a source.
-ghost use Rattle.std.specs.Prelude.{◌≡◌, ◌≤◌, [], drop, length, map, option_map, slice_index_or, unwrap_or, IfOk, Ok};
+ghost use Rattle.std.specs.Prelude.{◌≡◌, ◌≤◌, [], drop, length, map, option_map, unwrap_or, IfOk, Ok};
 ghost use Rattle.masm_lex.specs.Tokens.{text_of};
 ghost use Rattle.masm_reading.specs.Reading.{parts_of};
 ghost use Rattle.show_why.specs.Neighbours.{scene_of};
@@ -26,16 +26,6 @@ pub(crate) struct Sight<'a> {
     // those of the whole source, and `begin`
     pub procedures: Vec<Header>,
     pub parts: Vec<&'a [u8]>,
-}
-
-// The first of some parts, and nothing where there is none.
-pub(crate) fn first_part<'a>(parts: &[&'a [u8]]) -> &'a [u8]
-    ensures { result.now ≡ slice_index_or (map (λ part. part.now) parts.entry.now) 0 [] }
-{
-    match parts.first() {
-        Some(part) => part,
-        None => b"",
-    }
 }
 
 // The parts behind the first one.

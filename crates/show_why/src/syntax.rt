@@ -1,29 +1,21 @@
 //! What is told of a token that does not fit or is of a wrong form, and of a source that ends early.
 ghost use Rattle.std.specs.Prelude.{◌≡◌, ◌++◌, map, option_map, OnOk};
-ghost use Rattle.show_why.specs.Sentences.{counted_line, early_line, end_line, export_line, form_line, has_begun, inside_line, malformed_line, misplaced_line, outside_line, parameters_line, part_line, parts_line, plain_line, syntax_line};
-ghost use Rattle.show_why.specs.Forms.{written as written_as};
+ghost use Rattle.show_tokens.specs.Parts.{parts_line};
 ghost use Rattle.show_why.specs.Scenes.{innermost};
+ghost use Rattle.show_why.specs.Sentences.{early_line, end_line, export_line, has_begun, inside_line, malformed_line, misplaced_line, outside_line, syntax_line};
 ghost use Rattle.show_why.specs.Sights.{Sight as Seen, first_of, more_of};
 ghost use Rattle.show_why.specs.Views.{IsSight, scene_view};
 
 use crate::alone::{is_malformed, lacks_name};
-use crate::foreign::{
-    append_apart, append_error, append_expression, append_if_false, append_name_apart,
-    append_separator, append_word, has_bracket, has_error, has_expression, has_semicolon, is_apart,
-    is_if_false,
-};
-use crate::forms::{
-    append_count, append_no_number, append_written, first_no_number, form_by, word, written,
-};
-use crate::lines::append_sentence;
-use crate::paths::{append_path, has_path};
 use crate::scene::{Scene, spelled};
-use crate::sight::{Sight, first_part, later_parts, text_or_nothing};
+use crate::sight::{Sight, later_parts, text_or_nothing};
 use itoa::Buffer;
-use masm_instr::Form;
 use masm_lex::Token;
-use masm_reading::Consts;
 use masm_tree::{Header, Role};
+use show_tokens::{
+    append_apart, append_name_apart, append_parts, append_sentence, append_separator, first_part,
+    has_semicolon, is_apart, word,
+};
 use std::alloc::Global;
 use vm_field::{Bytes, Memory};
 
@@ -118,104 +110,6 @@ fn append_misplaced(
     match scene.innermost() {
         Some(token) => append_inside(text, source, first, &token),
         None => append_outside(text, first, more, has_begun(scene.last_header())),
-    }
-}
-
-fn append_part(text: &mut Bytes, form: &Form, part: Option<&[u8]>) -> Result<(), Memory>
-    ensures { OnOk result (text.new ≡ text.old ++ part_line form.now (option_map (λ part. part.now) part.entry)) }
-{
-    match part {
-        Some(part) => append_no_number(text, form, part),
-        None => Ok(()),
-    }
-}
-
-// Adds what is told of parameters by their count.
-fn append_counted(
-    text: &mut Bytes,
-    consts: &Consts,
-    first: &[u8],
-    more: &[&[u8]],
-    form: Option<Form>,
-) -> Result<(), Memory>
-    ensures { OnOk result (text.new ≡ text.old ++ counted_line consts.now first.now (map (λ part. part.now) more.now) form) }
-{
-    let Some(form) = form else {
-        return Ok(());
-    };
-    if more.len() < form.least || form.most < more.len() {
-        return append_count(text, first, &form, more.len());
-    }
-    append_part(text, &form, first_no_number(consts, &form, more))
-}
-
-fn append_parameters(
-    text: &mut Bytes,
-    consts: &Consts,
-    first: &[u8],
-    more: &[&[u8]],
-) -> Result<(), Memory>
-    ensures { OnOk result (text.new ≡ text.old ++ parameters_line consts.now first.now (map (λ part. part.now) more.now)) }
-{
-    if has_bracket(more) {
-        append_word(text)
-    } else if has_error(more) {
-        append_error(text)
-    } else {
-        append_counted(text, consts, first, more, form_by(first))
-    }
-}
-
-fn append_form(
-    text: &mut Bytes,
-    consts: &Consts,
-    first: &[u8],
-    more: &[&[u8]],
-) -> Result<(), Memory>
-    ensures { OnOk result (text.new ≡ text.old ++ form_line consts.now first.now (map (λ part. part.now) more.now) (written_as first.now)) }
-{
-    match written(first) {
-        Some(form) => append_written(text, first, form),
-        None => append_parameters(text, consts, first, more),
-    }
-}
-
-// Adds what is told of a token of a wrong form without a path.
-fn append_plain(
-    alloc: Global,
-    text: &mut Bytes,
-    consts: &Consts,
-    first: &[u8],
-    more: &[&[u8]],
-) -> Result<(), Memory>
-    ensures { OnOk result (text.new ≡ text.old ++ plain_line consts.now first.now (map (λ part. part.now) more.now)) }
-{
-    if is_if_false(first, more) {
-        append_if_false(text)
-    } else if has_expression(alloc, first, more)? {
-        append_expression(text)
-    } else {
-        append_form(text, consts, first, more)
-    }
-}
-
-// Adds what is told of a token of a wrong form by its parts.
-fn append_parts(
-    alloc: Global,
-    text: &mut Bytes,
-    is_kernel: bool,
-    procedures: &[Header],
-    consts: &Consts,
-    first: &[u8],
-    more: &[&[u8]],
-) -> Result<(), Memory>
-    ensures { OnOk result (text.new ≡ text.old
-        ++ parts_line is_kernel procedures.now consts.now first.now (map (λ part. part.now) more.now)) }
-{
-    if has_path(alloc, first, more)? {
-        append_path(alloc, text, is_kernel, procedures, first, more)
-    } else {
-        append_plain(alloc, text, consts, first, more)
     }
 }
 

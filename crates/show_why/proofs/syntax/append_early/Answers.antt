@@ -1,6 +1,6 @@
 use Rattle.std.proofs.Common.{◌≡◌, Bool, false, if◌then◌else◌, [], ◌∷◌, ◌++◌, bytes_eq, codes, map, OnOk, subst, sym, ◌∙◌}
-use Rattle.show_why.specs.Forms.{parameter, word}
-use Rattle.show_why.specs.Lines.{sentence}
+use Rattle.show_tokens.specs.Forms.{parameter}
+use Rattle.show_tokens.specs.Words.{sentence, word}
 use Rattle.show_why.specs.Sentences.{export_line}
 use Rattle.show_why.proofs.syntax.append_early.Goals as goal
 

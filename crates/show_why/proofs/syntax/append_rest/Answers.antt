@@ -1,11 +1,11 @@
 use Rattle.std.proofs.Common.{◌≡◌, ℕ, Bool, List, [], ◌++◌, drop, map, slice_index_or, ap, ap₂, ◌∙◌}
 use Rattle.std.proofs.lemmas.Result.{on_ok_weaker}
 use Rattle.masm_tree.specs.declared.terminal.Header.{Header}
+use Rattle.show_tokens.specs.Parts.{parts_line}
 use Rattle.show_why.specs.Scenes.{Scene}
-use Rattle.show_why.specs.Sentences.{parts_line}
 use Rattle.show_why.specs.Sights.{Sight, first_of, more_of}
-use Rattle.show_why.specs.declared.sight.Sight as code
 use Rattle.show_why.specs.Views.{IsSight}
+use Rattle.show_why.specs.declared.sight.Sight as code
 use Rattle.show_why.proofs.syntax.append_rest.Goals as goal
 
 -- what is told of the parts that the code holds is told of those that are seen

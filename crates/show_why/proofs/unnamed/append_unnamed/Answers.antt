@@ -1,10 +1,10 @@
 use Rattle.std.proofs.Common.{◌≡◌, ℕ, Bool, List, [], ◌++◌, map, slice_index_or, Option, option_map, unwrap_or, ap, ap₂, ◌∙◌}
 use Rattle.std.proofs.lemmas.Result.{on_ok_weaker}
 use Rattle.masm_tree.specs.declared.terminal.Header.{Header}
+use Rattle.show_tokens.specs.Unnamed.{unnamed_line}
 use Rattle.show_why.specs.Sights.{Sight, first_of}
-use Rattle.show_why.specs.Unnamed.{unnamed_line}
-use Rattle.show_why.specs.declared.sight.Sight as code
 use Rattle.show_why.specs.Views.{IsSight}
+use Rattle.show_why.specs.declared.sight.Sight as code
 use Rattle.show_why.proofs.unnamed.append_unnamed.Goals as goal
 
 -- what is told of the token that the code holds is told of the one that is seen

@@ -1,0 +1,6 @@
+use Rattle.show_tokens.proofs.forms.append_exact.Goals as goal
+
+pub returns : goal.returns
+returns c =
+    rw (c.as_bytes-least.ensures.value, c.format.ensures.text, c.as_bytes-count.ensures.value, c.format-2.ensures.text, c.word.ensures)
+    at c.append_sentence.ensures

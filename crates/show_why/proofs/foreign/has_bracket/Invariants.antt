@@ -1,8 +1,0 @@
-use Rattle.std.proofs.Common.{◌≡◌, drop, map}
-use Rattle.std.specs.List.{list_any}
-use Rattle.show_why.specs.Foreign.{is_bracket}
-use Rattle.show_why.proofs.foreign.has_bracket.Given as goal
-
-abbrev pub invariant-loop-part : goal.invariant-loop-part
-invariant-loop-part l =
-    list_any is_bracket (map (λ part. part.now) (drop l.part-index l.parts)) ≡ list_any is_bracket (map (λ part. part.now) l.parts)
