@@ -1,6 +1,6 @@
 -- What is written otherwise in other assemblies, and how it is written here (docs/SHOW.md, "why").
-use Rattle.std.specs.Prelude.{ℕ, Bool, false, ◌==◌, ◌&&◌, ◌||◌, nat_le, nat_lt, if◌then◌else◌, List, [], ◌∷◌, codes, is_some, length, slice_index, slice_index_or, take, Option, Some, None}
-use Rattle.std.specs.List.{list_any, slice_split}
+use Rattle.std.specs.Prelude.{ℕ, Bool, false, ◌==◌, ◌&&◌, ◌||◌, nat_le, nat_lt, if◌then◌else◌, List, [], ◌∷◌, codes, drop, is_some, length, slice_index, slice_index_or, take, Option, Some, None}
+use Rattle.std.specs.List.{list_all, list_any, slice_split}
 use Rattle.std.specs.Str.{bytes_eq}
 use Rattle.masm_instr.specs.declared.form.Form.{Form}
 use Rattle.masm_reading.specs.Numbers.{number}
@@ -109,6 +109,18 @@ expression_line = sentence (codes "a constant is one number, without arithmetic 
 -- push.[1,2,3,4]
 abbrev pub is_bracket : List ℕ → Bool
 is_bracket part = slice_index part 0 == 91
+
+-- a digit behind 0x, of either case
+abbrev pub is_digit : ℕ → Bool
+is_digit byte = (nat_le 48 byte && nat_le byte 57) || (nat_le 65 byte && nat_le byte 70) || (nat_le 97 byte && nat_le byte 102)
+
+-- 0x and 64 digits behind it
+abbrev pub is_long : List ℕ → Bool
+is_long part = bytes_eq (take 2 part) (codes "0x") && (length part == 66) && list_all is_digit (drop 2 part)
+
+-- a word in brackets, or one that is pushed as one number
+abbrev pub has_word : List ℕ → List (List ℕ) → Bool
+has_word first more = list_any is_bracket more || (bytes_eq first (codes "push") && list_any is_long more)
 
 abbrev pub word_line : List ℕ
 word_line = sentence (codes "a word is pushed as four numbers, as push.1.2.3.4" ∷ [])

@@ -1,5 +1,6 @@
 -- How tokens are written, in words (docs/ASSEMBLY.md, "Grammar" and "Instructions").
-use Rattle.std.specs.Prelude.{ℕ, Bool, true, false, ◌==◌, ◌||◌, ◌&&◌, not, nat_le, if◌then◌else◌, List, [], ◌∷◌, codes, decimal, find, is_none, slice_index, slice_index_or, Option, Some, None, option_map}
+use Rattle.std.specs.Prelude.{ℕ, Bool, true, false, ◌==◌, ◌||◌, ◌&&◌, not, nat_le, if◌then◌else◌, List, [], ◌∷◌, codes, decimal, drop, find, is_none, slice_index, slice_index_or, Option, Some, None, option_map}
+use Rattle.std.specs.List.{list_any}
 use Rattle.std.specs.Str.{bytes_eq}
 use Rattle.masm_instr.specs.Instructions.{is_in_range}
 use Rattle.masm_instr.specs.Names.{name_of}
@@ -68,15 +69,24 @@ count_line first form count =
 abbrev pub is_capital : List ℕ → Bool
 is_capital part = nat_le 65 (slice_index part 0) && nat_le (slice_index part 0) 90
 
--- what a part is that gives no number, where constants may stand or not
-abbrev pub missing_text : Bool → Bool → List ℕ
-missing_text capital constants =
-    if not capital then codes " is no number"
+-- * + - /
+abbrev pub is_arithmetic : ℕ → Bool
+is_arithmetic byte = (byte == 42) || (byte == 43) || (byte == 45) || (byte == 47)
+
+-- whether one of these stands behind the first byte of a part, as in A+1
+abbrev pub has_arithmetic : List ℕ → Bool
+has_arithmetic part = list_any is_arithmetic (drop 1 part)
+
+-- what a part is that gives no number: with arithmetic or without, a capital first or not, where constants may stand or not
+abbrev pub missing_text : Bool → Bool → Bool → List ℕ
+missing_text arithmetic capital constants =
+    if arithmetic && constants then codes " is no number: a parameter is one number or one constant, without arithmetic"
+    else if not capital then codes " is no number"
     else if constants then codes " is not defined: constants are defined before their first use"
     else codes " is no number, and no constant may stand here"
 
 abbrev pub no_number_line : Form → List ℕ → List ℕ
-no_number_line form part = sentence (word part ∷ missing_text (is_capital part) form.constants ∷ [])
+no_number_line form part = sentence (word part ∷ missing_text (has_arithmetic part) (is_capital part) form.constants ∷ [])
 
 -- the first part that gives no number
 abbrev pub first_no_number : List Const → Form → List (List ℕ) → Option (List ℕ)

@@ -5,7 +5,7 @@ use Rattle.masm_instr.specs.Instructions.{is_count}
 use Rattle.masm_instr.specs.declared.form.Form.{Form}
 use Rattle.masm_reading.specs.declared.constant.Const.{Const}
 use Rattle.masm_tree.specs.declared.terminal.Header.{Header}
-use Rattle.show_tokens.specs.Foreign.{error_line, expression_line, has_expression, if_false_line, is_bracket, is_error, is_if_false, word_line}
+use Rattle.show_tokens.specs.Foreign.{error_line, expression_line, has_expression, has_word, if_false_line, is_error, is_if_false, word_line}
 use Rattle.show_tokens.specs.Forms.{count_line, first_no_number, form_by, no_number_line, parameter, written, written_line}
 use Rattle.show_tokens.specs.Paths.{has_path, path_line, pieces_of}
 
@@ -20,10 +20,10 @@ counted_line consts first more None = []
 counted_line consts first more (Some form) =
     if is_count form (length more) then part_line form (first_no_number consts form more) else count_line first form (length more)
 
--- parameters of a wrong form: a word in brackets, an error code, or others
+-- parameters of a wrong form: a word, an error code, or others
 abbrev pub parameters_line : List Const → List ℕ → List (List ℕ) → List ℕ
 parameters_line consts first more =
-    if list_any is_bracket more then word_line
+    if has_word first more then word_line
     else if list_any is_error more then error_line
     else counted_line consts first more (form_by first)
 

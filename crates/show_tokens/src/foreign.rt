@@ -1,10 +1,10 @@
 //! What is written otherwise in other assemblies, and how it is written here.
 ghost use Rattle.std.specs.Prelude.{◌≡◌, ◌++◌, map, option_map, IfOk, OnOk};
-ghost use Rattle.std.specs.List.{list_any};
-ghost use Rattle.show_tokens.specs.Foreign.{apart_line, comment_line, error_line, expression_line, gives_number, has_expression, has_semicolon, if_false_line, imports_line, is_apart, is_bracket, is_computed, is_error, is_expression, is_if_false, is_number, is_operator, is_slashes, name_apart_line, public_line, pushed_line, run_line, separator_line, sides_of, unsupported_line, wants_number, word_line};
+ghost use Rattle.std.specs.List.{list_all, list_any};
+ghost use Rattle.show_tokens.specs.Foreign.{apart_line, comment_line, error_line, expression_line, gives_number, has_expression, has_semicolon, has_word, if_false_line, imports_line, is_apart, is_bracket, is_computed, is_digit, is_error, is_expression, is_if_false, is_long, is_number, is_operator, is_slashes, name_apart_line, public_line, pushed_line, run_line, separator_line, sides_of, unsupported_line, wants_number, word_line};
 
 use crate::forms::{first_part, form_by, is_capital};
-use crate::words::{append_sentence, front, word};
+use crate::words::{append_sentence, behind, front, word};
 use masm_instr::Form;
 use masm_reading::{read_number, split};
 use std::alloc::Global;
@@ -242,7 +242,7 @@ fn is_bracket(part: &[u8]) -> bool
 }
 
 // Whether a part begins with a bracket.
-pub(crate) fn has_bracket(parts: &[&[u8]]) -> bool
+fn has_bracket(parts: &[&[u8]]) -> bool
     ensures { result ≡ list_any is_bracket (map (λ part. part.now) parts.now) }
 {
     for part in parts {
@@ -251,6 +251,43 @@ pub(crate) fn has_bracket(parts: &[&[u8]]) -> bool
         }
     }
     false
+}
+
+fn is_digit(byte: u8) -> bool
+    ensures { result ≡ is_digit byte }
+{
+    matches!(byte, b'0'..=b'9' | b'A'..=b'F' | b'a'..=b'f')
+}
+
+fn are_digits(text: &[u8]) -> bool
+    ensures { result ≡ list_all is_digit text.now }
+{
+    text.iter().all(|byte| is_digit(*byte))
+}
+
+// Whether a part is `0x` and 64 digits.
+fn is_long(part: &[u8]) -> bool
+    ensures { result ≡ is_long part.now }
+{
+    front(part, 2) == b"0x".as_slice() && part.len() == 66 && are_digits(behind(part, 2))
+}
+
+fn has_long(parts: &[&[u8]]) -> bool
+    ensures { result ≡ list_any is_long (map (λ part. part.now) parts.now) }
+{
+    for part in parts {
+        if is_long(part) {
+            return true;
+        }
+    }
+    false
+}
+
+// Whether a token has a word in brackets, or pushes one as one number.
+pub(crate) fn has_word(first: &[u8], more: &[&[u8]]) -> bool
+    ensures { result ≡ has_word first.now (map (λ part. part.now) more.now) }
+{
+    has_bracket(more) || (first == b"push".as_slice() && has_long(more))
 }
 
 pub(crate) fn append_word(text: &mut Bytes) -> Result<(), Memory>

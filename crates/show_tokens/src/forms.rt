@@ -1,8 +1,8 @@
 //! How tokens are written, in words.
 ghost use Rattle.std.specs.Prelude.{◌≡◌, [], ◌++◌, map, option_map, slice_index_or, OnOk};
-ghost use Rattle.show_tokens.specs.Forms.{between_line, count_line, exact_line, first_no_number, first_outside, form_by, is_capital, is_outside, is_procedure, is_use, missing_text, no_number_line, none_line, one_line, range_line, span_line, written, written_line};
+ghost use Rattle.show_tokens.specs.Forms.{between_line, count_line, exact_line, first_no_number, first_outside, form_by, has_arithmetic, is_arithmetic, is_capital, is_outside, is_procedure, is_use, missing_text, no_number_line, none_line, one_line, range_line, span_line, written, written_line};
 
-use crate::words::{append_both, append_sentence, word};
+use crate::words::{append_both, append_sentence, behind, word};
 use itoa::Buffer;
 use masm_instr::{Form, name_of};
 use masm_reading::{Consts, read_parameter};
@@ -161,11 +161,26 @@ pub(crate) fn is_capital(part: &[u8]) -> bool
     }
 }
 
-// What a part is that gives no number, where constants may stand or not.
-fn missing_text(is_capital: bool, constants: bool) -> &'static str
-    ensures { result.now ≡ missing_text is_capital constants }
+fn is_arithmetic(byte: u8) -> bool
+    ensures { result ≡ is_arithmetic byte }
 {
-    if !is_capital {
+    matches!(byte, b'*' | b'+' | b'-' | b'/')
+}
+
+// Whether arithmetic stands behind the first byte of a part.
+fn has_arithmetic(part: &[u8]) -> bool
+    ensures { result ≡ has_arithmetic part.now }
+{
+    behind(part, 1).iter().any(|byte| is_arithmetic(*byte))
+}
+
+// What a part is that gives no number: with arithmetic or without, a capital first or not, where constants may stand or not.
+fn missing_text(has_arithmetic: bool, is_capital: bool, constants: bool) -> &'static str
+    ensures { result.now ≡ missing_text has_arithmetic is_capital constants }
+{
+    if has_arithmetic && constants {
+        " is no number: a parameter is one number or one constant, without arithmetic"
+    } else if !is_capital {
         " is no number"
     } else if constants {
         " is not defined: constants are defined before their first use"
@@ -177,8 +192,8 @@ fn missing_text(is_capital: bool, constants: bool) -> &'static str
 pub(crate) fn append_no_number(text: &mut Bytes, form: &Form, part: &[u8]) -> Result<(), Memory>
     ensures { OnOk result (text.new ≡ text.old ++ no_number_line form.now part.now) }
 {
-    let behind = missing_text(is_capital(part), form.constants).as_bytes();
-    append_both(text, word(part), behind)
+    let told = missing_text(has_arithmetic(part), is_capital(part), form.constants);
+    append_both(text, word(part), told.as_bytes())
 }
 
 // The first part that gives no number.

@@ -4,8 +4,8 @@ ghost use Rattle.show_tokens.specs.Forms.{written as written_as};
 ghost use Rattle.show_tokens.specs.Parts.{counted_line, form_line, parameters_line, part_line, parts_line, plain_line};
 
 use crate::foreign::{
-    append_error, append_expression, append_if_false, append_word, has_bracket, has_error,
-    has_expression, is_if_false,
+    append_error, append_expression, append_if_false, append_word, has_error, has_expression,
+    has_word, is_if_false,
 };
 use crate::forms::{
     append_count, append_no_number, append_written, first_no_number, form_by, written,
@@ -53,7 +53,7 @@ fn append_parameters(
 ) -> Result<(), Memory>
     ensures { OnOk result (text.new ≡ text.old ++ parameters_line consts.now first.now (map (λ part. part.now) more.now)) }
 {
-    if has_bracket(more) {
+    if has_word(first, more) {
         append_word(text)
     } else if has_error(more) {
         append_error(text)

@@ -515,6 +515,102 @@ static PARTS: [Row; 9] = [
     ),
 ];
 
+static ARITHMETIC: [Row; 5] = [
+    (
+        Text("begin push.A+1 end"),
+        None,
+        3,
+        "source p 1 7 Syntax\n\
+            begin push.A+1 end\n\
+            \x20     ^\n\
+            A+1 is no number: a parameter is one number or one constant, without arithmetic\n",
+    ),
+    (
+        Text("const.A=2 begin push.1.A*2 end"),
+        None,
+        3,
+        "source p 1 17 Syntax\n\
+            const.A=2 begin push.1.A*2 end\n\
+            \x20               ^\n\
+            A*2 is no number: a parameter is one number or one constant, without arithmetic\n",
+    ),
+    (
+        Text("begin repeat.8/2 neg end end"),
+        None,
+        3,
+        "source p 1 7 Syntax\n\
+            begin repeat.8/2 neg end end\n\
+            \x20     ^\n\
+            8/2 is no number: a parameter is one number or one constant, without arithmetic\n",
+    ),
+    (
+        Text("begin push.-1 end"),
+        None,
+        3,
+        "source p 1 7 Syntax\n\
+            begin push.-1 end\n\
+            \x20     ^\n\
+            -1 is no number\n",
+    ),
+    (
+        Text("begin dup.A-1 end"),
+        None,
+        3,
+        "source p 1 7 Syntax\n\
+            begin dup.A-1 end\n\
+            \x20     ^\n\
+            A-1 is no number, and no constant may stand here\n",
+    ),
+];
+
+static WORDS: [Row; 5] = [
+    (
+        Text("begin push.0x0123456789abcdefFEDCBA98765432100123456789abcdefFEDCBA9876543210 end"),
+        None,
+        3,
+        "source p 1 7 Syntax\n\
+            begin push.0x0123456789abcdefFEDCBA98765432100123456789abcdefFEDCBA9876543210 end\n\
+            \x20     ^\n\
+            a word is pushed as four numbers, as push.1.2.3.4\n",
+    ),
+    (
+        Text("begin push.1.0x0000000000000001000000000000000200000000000000030000000000000004 end"),
+        None,
+        3,
+        "source p 1 7 Syntax\n\
+            begin push.1.0x0000000000000001000000000000000200000000000000030000000000000004 end\n\
+            \x20     ^\n\
+            a word is pushed as four numbers, as push.1.2.3.4\n",
+    ),
+    (
+        Text("begin push.0x000000000000000100000000000000020000000000000003000000000000000 end"),
+        None,
+        3,
+        "source p 1 7 Syntax\n\
+            begin push.0x000000000000000100000000000000020000000000000003000000000000000 end\n\
+            \x20     ^\n\
+            0x000000000000000100000000000000020000000000000003000000000000000 is no number\n",
+    ),
+    (
+        Text("begin push.0x000000000000000100000000000000020000000000000003000000000000000g end"),
+        None,
+        3,
+        "source p 1 7 Syntax\n\
+            begin push.0x000000000000000100000000000000020000000000000003000000000000000g end\n\
+            \x20     ^\n\
+            0x000000000000000100000000000000020000000000000003000000000000000g is no number\n",
+    ),
+    (
+        Text("begin add.0x0000000000000001000000000000000200000000000000030000000000000004 end"),
+        None,
+        3,
+        "source p 1 7 Syntax\n\
+            begin add.0x0000000000000001000000000000000200000000000000030000000000000004 end\n\
+            \x20     ^\n\
+            0x0000000000000001000000000000000200000000000000030000000000000004 is no number\n",
+    ),
+];
+
 static CONSTANTS: [Row; 10] = [
     (
         Text("const.A=2 const.B=A+1 begin end"),
@@ -676,6 +772,16 @@ fn headers_apart_are_told(rt: HostRuntime) -> Result<(), Fail> {
 #[test]
 fn brackets_and_error_codes_are_told(rt: HostRuntime) -> Result<(), Fail> {
     all_hold(&rt, &PARTS)
+}
+
+#[test]
+fn arithmetic_is_told(rt: HostRuntime) -> Result<(), Fail> {
+    all_hold(&rt, &ARITHMETIC)
+}
+
+#[test]
+fn words_as_one_number_are_told(rt: HostRuntime) -> Result<(), Fail> {
+    all_hold(&rt, &WORDS)
 }
 
 #[test]
