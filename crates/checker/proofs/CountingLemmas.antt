@@ -18,7 +18,7 @@ use Rattle.air_kit.specs.declared.trace.Trace.{Trace}
 use Rattle.buses.specs.Counts.{Counted, OfRow, at_row, counted, over_first, over_rows, total, with_next}
 use Rattle.buses.specs.declared.bus.Bus.{Bus}
 use Rattle.buses.proofs.Counting.{counted-append}
-use Rattle.bus_kit.specs.ByBus.{AreCounted, HaveRoom, asked_by, both_by, given_by}
+use Rattle.bus_kit.specs.ByBus.{AreCounted, HaveRoom, both_by}
 use Rattle.bus_kit.specs.Counting.{FitTogether, summed}
 use Rattle.bus_kit.specs.declared.tallies.Tallies.{Tallies}
 use Rattle.bus_main.specs.RowTuples.{main_given_at}
@@ -26,11 +26,10 @@ use Rattle.facts_main.proofs.BatchFacts.{batch_row}
 use Rattle.facts_main.proofs.OpcodeFacts.{main_parts, opcode_bits}
 use Rattle.facts_main.proofs.Zeros.{numbers_zero}
 use Rattle.vm_table.specs.Layout.{IsTable}
-use Rattle.checker.proofs.PieceLemmas.{all_end, all_start, below_all, below_none, ends_same, halves_meet, starts_same}
 use Rattle.checker.proofs.TableOrder.{number_at, sum_next, table_at, table_below}
-use Rattle.checker.specs.Counting.{AreReadable, AreRowsCounted, AreTablesCounted, AreWithin, IsPartCounted, IsRowCounted, IsTableCounted, IsTraceCounted, asked_below, asked_of, given_below, given_of, room_before, room_behind}
-use Rattle.checker.specs.Pieces.{all_rows, ends_at, rows_below, starts_at}
+use Rattle.checker.specs.Counting.{AreReadable, AreRowsCounted, AreTablesCounted, AreWithin, IsPartCounted, IsRowCounted, IsTableCounted, IsTraceCounted, asked_below, asked_of, given_below, given_of, room_before, room_behind, share_at}
 use Rattle.checker.specs.declared.parts.Part.{Part}
+use Rattle.pieces.proofs.CutLemmas.{cut_ends, cut_starts}
 
 -- no row
 pub none_counted : (c : Claim) (t : Trace) (name : TableName) (i : ℕ) (a : Tallies) → AreRowsCounted c t name i i a a
@@ -91,10 +90,10 @@ room_for_table c t name i n a b within p few bus u =
     (omega (arith, start.0, few, asked), omega (arith, start.1, few, given))
 
 -- the rows that a table has in some pieces
-pub table_counted : (c : Claim) (t : Trace) (part : Part) (name : TableName) (i n : ℕ) (a b : Tallies) → i ≡ rows_below t name (starts_at t part)
-    → n ≡ rows_below t name (ends_at t part) → AreRowsCounted c t name i n a b → IsTableCounted c t part name a b
+pub table_counted : (c : Claim) (t : Trace) (part : Part) (name : TableName) (i n : ℕ) (a b : Tallies) → i ≡ share_at t name part.low part.pieces
+    → n ≡ share_at t name part.high part.pieces → AreRowsCounted c t name i n a b → IsTableCounted c t part name a b
 table_counted c t part name i n a b start end p =
-    subst (λ k. AreRowsCounted c t name k (rows_below t name (ends_at t part)) a b) start (subst (λ k. AreRowsCounted c t name i k a b) end p)
+    subst (λ k. AreRowsCounted c t name k (share_at t name part.high part.pieces) a b) start (subst (λ k. AreRowsCounted c t name i k a b) end p)
 
 -- what was counted where there was memory
 pub as_option : {E : Type 0} (P : Type 0) (r : Result (Unit {0}) E) (o : Option (Unit {0})) → o ≡ result_ok r → OnOk r P → OnSome o P
@@ -136,15 +135,15 @@ main_given_rows : (c : Claim) (bus : Bus) (rows : List (List ℕ)) (n : ℕ) (u 
 main_given_rows c bus rows zero u some = absurd (omega (arith, some))
 main_given_rows c bus rows (suc n) u some = main_given_first c bus rows n u
 
-asked_next : (c : Claim) (t : Trace) (bus : Bus) (n m : ℕ) (u : List ℕ) → n < 7
-    → asked_below c t bus (suc n) m u
-    ≡ asked_below c t bus n m u + over_first (asked_of c bus (table_at n)) (rows_of t (table_at n)) (rows_below t (table_at n) m) u
-asked_next c t bus n m u h = sum_next every_table n (λ name. over_first (asked_of c bus name) (rows_of t name) (rows_below t name m) u) h
+asked_next : (c : Claim) (t : Trace) (bus : Bus) (n j k : ℕ) (u : List ℕ) → n < 7
+    → asked_below c t bus (suc n) j k u
+    ≡ asked_below c t bus n j k u + over_first (asked_of c bus (table_at n)) (rows_of t (table_at n)) (share_at t (table_at n) j k) u
+asked_next c t bus n j k u h = sum_next every_table n (λ name. over_first (asked_of c bus name) (rows_of t name) (share_at t name j k) u) h
 
-given_next : (c : Claim) (t : Trace) (bus : Bus) (n m : ℕ) (u : List ℕ) → n < 7
-    → given_below c t bus (suc n) m u
-    ≡ given_below c t bus n m u + over_first (given_of c bus (table_at n)) (rows_of t (table_at n)) (rows_below t (table_at n) m) u
-given_next c t bus n m u h = sum_next every_table n (λ name. over_first (given_of c bus name) (rows_of t name) (rows_below t name m) u) h
+given_next : (c : Claim) (t : Trace) (bus : Bus) (n j k : ℕ) (u : List ℕ) → n < 7
+    → given_below c t bus (suc n) j k u
+    ≡ given_below c t bus n j k u + over_first (given_of c bus (table_at n)) (rows_of t (table_at n)) (share_at t (table_at n) j k) u
+given_next c t bus n j k u h = sum_next every_table n (λ name. over_first (given_of c bus name) (rows_of t name) (share_at t name j k) u) h
 
 -- no table
 pub no_table_counted : (c : Claim) (t : Trace) (part : Part) (none : Tallies) → ((bus : Bus) (u : List ℕ) → both_by none bus u ≡ (0, 0))
@@ -168,14 +167,14 @@ one_table_more c t part n a b h before p within = rw add-one (record {
   asked_is = λ bus u.
       let so_far = before.asked_is bus u in
       let table = p.asked_is bus u in
-      let first = asked_next c t bus n (starts_at t part) u h in
-      let last = asked_next c t bus n (ends_at t part) u h in
+      let first = asked_next c t bus n part.low part.pieces u h in
+      let last = asked_next c t bus n part.high part.pieces u h in
       omega (arith, so_far, table, first, last);
   given_is = λ bus u.
       let so_far = before.given_is bus u in
       let table = p.given_is bus u in
-      let first = given_next c t bus n (starts_at t part) u h in
-      let last = given_next c t bus n (ends_at t part) u h in
+      let first = given_next c t bus n part.low part.pieces u h in
+      let last = given_next c t bus n part.high part.pieces u h in
       omega (arith, so_far, table, first, last);
   within = subst (λ (k : ℕ). AreWithin (suc k * 2 ^ 90) b) (number_at n h) within;
 })
@@ -203,34 +202,34 @@ halves_fit c t part lower upper x y low middle high p q bus u =
 pub halves_counted : (c : Claim) (t : Trace) (part lower upper : Part) (x y z : Tallies) → (lower.pieces ≡ part.pieces) × (upper.pieces ≡ part.pieces)
     → lower.low ≡ part.low → lower.high ≡ upper.low → upper.high ≡ part.high → IsPartCounted c t lower x → IsPartCounted c t upper y
     → ((bus : Bus) (u : List ℕ) → both_by z bus u ≡ summed (both_by x bus u) (both_by y bus u)) → IsPartCounted c t part z
-halves_counted c t part lower upper x y z pieces low middle high p q sums =
-    let starts = starts_same t part lower pieces.0 low in
-    let meet = halves_meet t lower upper (pieces.0 ∙ sym pieces.1) middle in
-    let ends = ends_same t part upper pieces.1 high in
-    let first = lower.some in
-    let second = upper.some in
-    record {
-      asked_is = λ bus u.
-          let sum = ap (λ k. k.0) (sums bus u) in
-          let f = subst (λ m. asked_by x bus u + asked_below c t bus 7 (starts_at t lower) u ≡ asked_below c t bus 7 m u) meet (p.asked_is bus u) in
-          let g = q.asked_is bus u in
-          subst (λ m. asked_by z bus u + asked_below c t bus 7 m u ≡ asked_below c t bus 7 (ends_at t part) u) starts
-          (subst (λ m. asked_by z bus u + asked_below c t bus 7 (starts_at t lower) u ≡ asked_below c t bus 7 m u) ends (omega (arith, sum, f, g)));
-      given_is = λ bus u.
-          let sum = ap (λ k. k.1) (sums bus u) in
-          let f = subst (λ m. given_by x bus u + given_below c t bus 7 (starts_at t lower) u ≡ given_below c t bus 7 m u) meet (p.given_is bus u) in
-          let g = q.given_is bus u in
-          subst (λ m. given_by z bus u + given_below c t bus 7 m u ≡ given_below c t bus 7 (ends_at t part) u) starts
-          (subst (λ m. given_by z bus u + given_below c t bus 7 (starts_at t lower) u ≡ given_below c t bus 7 m u) ends (omega (arith, sum, f, g)));
-      within = λ bus u.
-          let sum_asked = ap (λ k. k.0) (sums bus u) in
-          let sum_given = ap (λ k. k.1) (sums bus u) in
-          let a = p.within bus u in
-          let b = q.within bus u in (
-            omega (arith, sum_asked, a.0, b.0, low, middle, high, first, second),
-            omega (arith, sum_given, a.1, b.1, low, middle, high, first, second),
-          );
-    }
+halves_counted c t part lower upper x y z pieces low middle high p q sums = record {
+  asked_is = λ bus u.
+      let sum = ap (λ k. k.0) (sums bus u) in
+      let starts = ap₂ (λ j k. asked_below c t bus 7 j k u) low pieces.0 in
+      let meet = ap₂ (λ j k. asked_below c t bus 7 j k u) middle (pieces.0 ∙ sym pieces.1) in
+      let ends = ap₂ (λ j k. asked_below c t bus 7 j k u) high pieces.1 in
+      let first = p.asked_is bus u in
+      let second = q.asked_is bus u in
+      omega (arith, sum, starts, meet, ends, first, second);
+  given_is = λ bus u.
+      let sum = ap (λ k. k.1) (sums bus u) in
+      let starts = ap₂ (λ j k. given_below c t bus 7 j k u) low pieces.0 in
+      let meet = ap₂ (λ j k. given_below c t bus 7 j k u) middle (pieces.0 ∙ sym pieces.1) in
+      let ends = ap₂ (λ j k. given_below c t bus 7 j k u) high pieces.1 in
+      let first = p.given_is bus u in
+      let second = q.given_is bus u in
+      omega (arith, sum, starts, meet, ends, first, second);
+  within = λ bus u.
+      let sum_asked = ap (λ k. k.0) (sums bus u) in
+      let sum_given = ap (λ k. k.1) (sums bus u) in
+      let a = p.within bus u in
+      let b = q.within bus u in
+      let first = lower.some in
+      let second = upper.some in (
+        omega (arith, sum_asked, a.0, b.0, low, middle, high, first, second),
+        omega (arith, sum_given, a.1, b.1, low, middle, high, first, second),
+      );
+}
 
 sum_same : (names : List TableName) (f g : TableName → ℕ) → ((name : TableName) → f name ≡ g name) → sum_over names f ≡ sum_over names g
 sum_same [] f g same = refl
@@ -240,38 +239,41 @@ over_none : (tuples : OfRow) (rows : List (List ℕ)) (u : List ℕ) → over_fi
 unfolding over_first total
 over_none tuples rows u = refl
 
--- no row has a number below 0
-none_below : (t : Trace) (tuples : TableName → OfRow) (u : List ℕ)
-    → sum_over every_table (λ name. over_first (tuples name) (rows_of t name) (rows_below t name 0) u) ≡ 0
-none_below t tuples u =
-    sum_same every_table (λ name. over_first (tuples name) (rows_of t name) (rows_below t name 0) u) (λ name. 0)
-    (λ name. ap (λ k. over_first (tuples name) (rows_of t name) k u) (below_none t name) ∙ over_none (tuples name) (rows_of t name) u)
+-- no row stands in front of the first share
+none_below : (t : Trace) (tuples : TableName → OfRow) (k : ℕ) (u : List ℕ) → 0 < k
+    → sum_over every_table (λ name. over_first (tuples name) (rows_of t name) (share_at t name 0 k) u) ≡ 0
+none_below t tuples k u some =
+    sum_same every_table (λ name. over_first (tuples name) (rows_of t name) (share_at t name 0 k) u) (λ name. 0)
+    (λ name. ap (λ n. over_first (tuples name) (rows_of t name) n u) (cut_starts (length (rows_of t name)) k some)
+    ∙ over_none (tuples name) (rows_of t name) u)
 
--- and each below the number of all
-all_below : (t : Trace) (tuples : TableName → OfRow) (u : List ℕ)
-    → sum_over every_table (λ name. over_first (tuples name) (rows_of t name) (rows_below t name (all_rows t)) u)
+-- and all behind the last one
+all_below : (t : Trace) (tuples : TableName → OfRow) (k : ℕ) (u : List ℕ) → 0 < k
+    → sum_over every_table (λ name. over_first (tuples name) (rows_of t name) (share_at t name k k) u)
     ≡ sum_over every_table (λ name. over_rows (tuples name) (rows_of t name) u)
-all_below t tuples u =
-    sum_same every_table (λ name. over_first (tuples name) (rows_of t name) (rows_below t name (all_rows t)) u)
-    (λ name. over_rows (tuples name) (rows_of t name) u) (λ name. ap (λ k. over_first (tuples name) (rows_of t name) k u) (below_all t name))
+all_below t tuples k u some =
+    sum_same every_table (λ name. over_first (tuples name) (rows_of t name) (share_at t name k k) u)
+    (λ name. over_rows (tuples name) (rows_of t name) u)
+    (λ name. ap (λ n. over_first (tuples name) (rows_of t name) n u) (cut_ends (length (rows_of t name)) k some))
 
 -- all pieces
 pub trace_counted : (c : Claim) (t : Trace) (all : Part) (pieces : ℕ) (tallies : Tallies) → HasCounts t → all.pieces ≡ pieces → all.low ≡ 0
     → all.high ≡ pieces → IsPartCounted c t all tallies → IsTraceCounted c t tallies
 unfolding asked_on given_on
-trace_counted c t all pieces tallies counts is low high p = record {
-  asked = λ bus u.
-      let rows = p.asked_is bus u in
-      let none = ap (λ k. asked_below c t bus 7 k u) (all_start t all pieces is low high) ∙ none_below t (asked_of c bus) u in
-      let whole = ap (λ k. asked_below c t bus 7 k u) (all_end t all pieces is low high) ∙ all_below t (asked_of c bus) u in
-      omega (arith, rows, none, whole);
-  given = λ bus u.
-      let rows = p.given_is bus u in
-      let none = ap (λ k. given_below c t bus 7 k u) (all_start t all pieces is low high) ∙ none_below t (given_of c bus) u in
-      let whole = ap (λ k. given_below c t bus 7 k u) (all_end t all pieces is low high) ∙ all_below t (given_of c bus) u in
-      let statement = main_given_rows c bus t.main (length t.main) u (counts table.Main).least in
-      omega (arith, rows, none, whole, statement);
-}
+trace_counted c t all pieces tallies counts is low high p =
+    let some : 0 < all.pieces = let h = all.some in let within = all.within in omega (arith, h, within) in record {
+      asked = λ bus u.
+          let rows = p.asked_is bus u in
+          let none = ap (λ j. asked_below c t bus 7 j all.pieces u) low ∙ none_below t (asked_of c bus) all.pieces u some in
+          let whole = ap (λ j. asked_below c t bus 7 j all.pieces u) (high ∙ sym is) ∙ all_below t (asked_of c bus) all.pieces u some in
+          omega (arith, rows, none, whole);
+      given = λ bus u.
+          let rows = p.given_is bus u in
+          let none = ap (λ j. given_below c t bus 7 j all.pieces u) low ∙ none_below t (given_of c bus) all.pieces u some in
+          let whole = ap (λ j. given_below c t bus 7 j all.pieces u) (high ∙ sym is) ∙ all_below t (given_of c bus) all.pieces u some in
+          let statement = main_given_rows c bus t.main (length t.main) u (counts table.Main).least in
+          omega (arith, rows, none, whole, statement);
+    }
 
 -- the same where memory may have been refused
 pub if_all_counted : (c : Claim) (t : Trace) (all : Part) (pieces : ℕ) (r : Option Tallies) → HasCounts t → all.pieces ≡ pieces → all.low ≡ 0

@@ -74,16 +74,6 @@ below_grows : (t : Trace) (name : TableName) (a b : ℕ) → a ≤ b → rows_be
 unfolding rows_below
 below_grows t name a b h = omega (arith, h)
 
--- none below 0
-pub below_none : (t : Trace) (name : TableName) → rows_below t name 0 ≡ 0
-unfolding rows_below
-below_none t name = omega arith
-
--- all below the number of all rows
-pub below_all : (t : Trace) (name : TableName) → rows_below t name (all_rows t) ≡ length (rows_of t name)
-unfolding rows_below
-below_all t name = let whole = rows_within t name in omega (arith, whole)
-
 -- a row of a table is among them exactly where its number is below
 pub row_at_least : (t : Trace) (name : TableName) (row a : ℕ) → a ≤ number_of t name row → rows_below t name a ≤ row
 unfolding rows_below

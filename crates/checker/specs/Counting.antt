@@ -14,8 +14,8 @@ use Rattle.bus_kit.specs.ByBus.{AreCounted, asked_by, given_by}
 use Rattle.bus_kit.specs.declared.tallies.Tallies.{Tallies}
 use Rattle.bus_main.specs.RowTuples.{IsReadable}
 use Rattle.bus_main.specs.RowTuples.{main_asked_at, main_given_at}
-use Rattle.checker.specs.Pieces.{ends_at, rows_below, starts_at}
 use Rattle.checker.specs.declared.parts.Part.{Part}
+use Rattle.pieces.specs.Cuts.{cut_at}
 
 -- what a row of a table asks on a bus
 abbrev pub asked_of : Claim → Bus → TableName → OfRow
@@ -51,9 +51,14 @@ pub record AreRowsCounted (c : Claim) (t : Trace) (name : TableName) (i j : ℕ)
   pub asked_grows : (bus : Bus) (u : List ℕ) → asked_by new bus u ≤ asked_by old bus u + (j - i) * 2 ^ 66
   pub given_grows : (bus : Bus) (u : List ℕ) → given_by new bus u ≤ given_by old bus u + (j - i) * 2 ^ 66
 
--- its rows in some pieces were
+-- the row of a table with which the share of a piece begins: each table is cut by itself, so that each piece has its share of each
+abbrev pub share_at : Trace → TableName → ℕ → ℕ → ℕ
+share_at t name piece pieces = cut_at piece (length (rows_of t name)) pieces
+
+-- its rows in some pieces were counted
 abbrev pub IsTableCounted : Claim → Trace → Part → TableName → Tallies → Tallies → Type 0
-IsTableCounted c t part name old new = AreRowsCounted c t name (rows_below t name (starts_at t part)) (rows_below t name (ends_at t part)) old new
+IsTableCounted c t part name old new =
+    AreRowsCounted c t name (share_at t name part.low part.pieces) (share_at t name part.high part.pieces) old new
 
 -- no count is above n
 abbrev pub AreWithin : ℕ → Tallies → Type 0
@@ -66,24 +71,24 @@ room_before name = table_number name * 2 ^ 90
 abbrev pub room_behind : TableName → ℕ
 room_behind name = suc (table_number name) * 2 ^ 90
 
--- what the rows whose number is below m ask on a bus, in the first n tables
-abbrev pub asked_below : Claim → Trace → Bus → ℕ → ℕ → List ℕ → ℕ
-asked_below c t bus n m u = sum_over (take n every_table) (λ name. over_first (asked_of c bus name) (rows_of t name) (rows_below t name m) u)
+-- what the rows in front of the share of piece j of k ask on a bus, in the first n tables
+abbrev pub asked_below : Claim → Trace → Bus → ℕ → ℕ → ℕ → List ℕ → ℕ
+asked_below c t bus n j k u = sum_over (take n every_table) (λ name. over_first (asked_of c bus name) (rows_of t name) (share_at t name j k) u)
 
 -- and what they give
-abbrev pub given_below : Claim → Trace → Bus → ℕ → ℕ → List ℕ → ℕ
-given_below c t bus n m u = sum_over (take n every_table) (λ name. over_first (given_of c bus name) (rows_of t name) (rows_below t name m) u)
+abbrev pub given_below : Claim → Trace → Bus → ℕ → ℕ → ℕ → List ℕ → ℕ
+given_below c t bus n j k u = sum_over (take n every_table) (λ name. over_first (given_of c bus name) (rows_of t name) (share_at t name j k) u)
 
 -- the rows of some pieces in the first n tables were counted, and no other
 pub record AreTablesCounted (c : Claim) (t : Trace) (part : Part) (n : ℕ) (tallies : Tallies) : Type 0 where
-  pub asked_is : (bus : Bus) (u : List ℕ) → asked_by tallies bus u + asked_below c t bus n (starts_at t part) u ≡ asked_below c t bus n (ends_at t part) u
-  pub given_is : (bus : Bus) (u : List ℕ) → given_by tallies bus u + given_below c t bus n (starts_at t part) u ≡ given_below c t bus n (ends_at t part) u
+  pub asked_is : (bus : Bus) (u : List ℕ) → asked_by tallies bus u + asked_below c t bus n part.low part.pieces u ≡ asked_below c t bus n part.high part.pieces u
+  pub given_is : (bus : Bus) (u : List ℕ) → given_by tallies bus u + given_below c t bus n part.low part.pieces u ≡ given_below c t bus n part.high part.pieces u
   pub within : AreWithin (n * 2 ^ 90) tallies
 
 -- all rows of some pieces were, and no other
 pub record IsPartCounted (c : Claim) (t : Trace) (part : Part) (tallies : Tallies) : Type 0 where
-  pub asked_is : (bus : Bus) (u : List ℕ) → asked_by tallies bus u + asked_below c t bus 7 (starts_at t part) u ≡ asked_below c t bus 7 (ends_at t part) u
-  pub given_is : (bus : Bus) (u : List ℕ) → given_by tallies bus u + given_below c t bus 7 (starts_at t part) u ≡ given_below c t bus 7 (ends_at t part) u
+  pub asked_is : (bus : Bus) (u : List ℕ) → asked_by tallies bus u + asked_below c t bus 7 part.low part.pieces u ≡ asked_below c t bus 7 part.high part.pieces u
+  pub given_is : (bus : Bus) (u : List ℕ) → given_by tallies bus u + given_below c t bus 7 part.low part.pieces u ≡ given_below c t bus 7 part.high part.pieces u
   pub within : AreWithin ((part.high - part.low) * 2 ^ 93) tallies
 
 -- the tuples of each row of the main table can be read off

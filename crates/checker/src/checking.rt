@@ -44,8 +44,8 @@ impl Valid {
 /// Checks a trace: it is accepted exactly where each entry of each row is 0 and each bus has each tuple asked as often as given.
 /// Else the answer is the first fault by table, row and number; where there is none, the first bus that is apart, with the least
 /// tuple and both its counts. Memory is asked for only where no row has a fault. The rows are tested in so many pieces, of which
-/// each goes through the gate, and where no row has a fault the tuples are counted in the same pieces, of which each goes through it
-/// again. The tuples' counts are hashed from the seed. No answer depends on the number of pieces or on the seed.
+/// each goes through the gate, and where no row has a fault the tuples are counted in as many pieces, of which each has its share of each
+/// table and goes through the gate again. The tuples' counts are hashed from the seed. No answer depends on the number of pieces or on the seed.
 pub fn check<R: Threads + Sync, G: Gate>(
     rt: &R,
     alloc: Global,

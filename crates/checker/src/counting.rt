@@ -5,7 +5,7 @@ ghost use Rattle.bus_kit.specs.ByBus.{HaveRoom};
 ghost use Rattle.checker.specs.Counting.{AreReadable, AreWithin, IsPartCounted, IsRowCounted, IsTableCounted, IsTraceCounted, room_before, room_behind};
 ghost use Rattle.checker.specs.Settings.{claim_in};
 
-use crate::numbering::rows_of_part;
+use crate::numbering::rows_in;
 use crate::parts::Part;
 use crate::setting::Setting;
 use air_kit::{TableName, Trace};
@@ -20,7 +20,7 @@ use std::thread::Threads;
 use vm_io::Gate;
 
 /// What the rows of all tables and the statement ask and give on each bus; none where memory was refused. The rows are counted
-/// in so many pieces, of which each goes through the gate.
+/// in so many pieces, each with its share of each table, of which each goes through the gate.
 pub(crate) fn count_all<R: Threads + Sync, G: Gate>(
     rt: &R,
     alloc: Global,
@@ -91,7 +91,8 @@ fn count_tables(
     Some(tallies)
 }
 
-// The tuples of a table.
+// The tuples of a table's share: each table is cut by itself. What a row asks takes several times as long in one table as in another, and
+// rows that answer one another lie at about the same share of their tables.
 fn count_table(
     trace: &Trace,
     setting: &Setting<'_>,
@@ -106,7 +107,7 @@ fn count_table(
         part name tallies.old tallies.new) }
     ensures room { OnSome result (AreWithin (room_behind name) tallies.new) }
 {
-    let Range { start, end } = rows_of_part(trace, name, part);
+    let Range { start, end } = part.rows(rows_in(trace, name));
     for row in start..end {
         count_row(trace, setting, name, row, tallies)?;
     }

@@ -76,11 +76,13 @@ impl Part {
         }
     }
 
-    /// The numbers of its rows, of so many rows.
+    /// Which of so many rows its pieces have.
     pub fn rows(self, count: usize) -> Range<usize>
         requires { count < 2 ^ 32 }
         ensures start { result.start ≡ cut_at self.low count self.pieces }
         ensures end { result.end ≡ cut_at self.high count self.pieces }
+        ensures grows { result.start ≤ result.end }
+        ensures within { result.end ≤ count }
     {
         cut(self.low, count, self.pieces)..cut(self.high, count, self.pieces)
     }
