@@ -91,8 +91,7 @@ fn count_tables(
     Some(tallies)
 }
 
-// The tuples of a table's share: each table is cut by itself. What a row asks takes several times as long in one table as in another, and
-// rows that answer one another lie at about the same share of their tables.
+// The tuples of a table's share: each table is cut by itself, since a row takes many times as long to count in one table as in another.
 fn count_table(
     trace: &Trace,
     setting: &Setting<'_>,
